@@ -8,9 +8,15 @@ use std::test::Fail;
 fn owned(alloc: Global, words: &[&str]) -> Result<Vec<String>, AllocError> {
     let mut owned = Vec::new(alloc);
     for word in words {
-        owned.push(String::from_str(alloc, word)?)?;
+        put_word(alloc, &mut owned, word)?;
     }
     Ok(owned)
+}
+
+// Adds an argument.
+fn put_word(alloc: Global, words: &mut Vec<String>, word: &str) -> Result<(), AllocError> {
+    words.push(String::from_str(alloc, word)?)?;
+    Ok(())
 }
 
 // The faults that no case covers: those of the store, of memory and of the output, and those inside
@@ -38,19 +44,24 @@ fn each_fault_has_its_exit_status(rt: HostRuntime) {
 // Returns what is printed for these arguments.
 fn printed(alloc: Global, words: &[String]) -> Result<Printed, AllocError> {
     match order(alloc, words) {
-        Ok(
-            Order::Replay { .. }
-            | Order::List { .. }
-            | Order::Look { .. }
-            | Order::Why { .. }
-            | Order::Import { .. }
-            | Order::Events { .. }
-            | Order::Check { .. }
-            | Order::Version
-            | Order::Serve { .. },
-        )
-        | Err(_) => { Err(AllocError) }
-        Ok(order) => answer(alloc, &order),
+        Ok(order) => answer_order(alloc, &order),
+        Err(_) => Err(AllocError),
+    }
+}
+
+// Returns what is printed for this order.
+fn answer_order(alloc: Global, order: &Order) -> Result<Printed, AllocError> {
+    match order {
+        Order::Replay { .. }
+        | Order::List { .. }
+        | Order::Look { .. }
+        | Order::Why { .. }
+        | Order::Import { .. }
+        | Order::Events { .. }
+        | Order::Check { .. }
+        | Order::Version
+        | Order::Serve { .. } => Err(AllocError),
+        _ => answer(alloc, order),
     }
 }
 
@@ -136,6 +147,12 @@ const REFUSED: [(&[&str], &str); 4] = [
     ),
 ];
 
+// Reports whether arguments print this.
+fn print_once(alloc: Global, words: &[String], out: &str, fault: &str) -> Result<bool, AllocError> {
+    let printed = printed(alloc, words)?;
+    Ok(prints(&printed, out, fault))
+}
+
 // Reports whether arguments print this, or out of memory at the first call but not at the second.
 fn print_again(
     alloc: Global,
@@ -143,17 +160,16 @@ fn print_again(
     out: &str,
     fault: &str,
 ) -> Result<bool, AllocError> {
-    if let Ok(first) = printed(alloc, words) {
-        if !prints(&first, out, fault) {
-            return Ok(false);
-        }
+    match print_once(alloc, words, out, fault) {
+        Ok(false) => Ok(false),
+        Ok(true) | Err(_) => print_once(alloc, words, out, fault),
     }
-    Ok(prints(&printed(alloc, words)?, out, fault))
 }
 
 // Does the same for arguments that are not owned.
 fn prints_again(alloc: Global, words: &[&str], out: &str, fault: &str) -> Result<bool, AllocError> {
-    print_again(alloc, &owned(alloc, words)?, out, fault)
+    let words = owned(alloc, words)?;
+    print_again(alloc, &words, out, fault)
 }
 
 // Does the same for arguments followed by a datagram with these options.
@@ -165,8 +181,15 @@ fn prints_with(
     fault: &str,
 ) -> Result<bool, AllocError> {
     let mut all = owned(alloc, words)?;
-    all.push(hex::encode(alloc, datagram(alloc, options)?)?)?;
+    put_datagram(alloc, &mut all, options)?;
     print_again(alloc, &all, out, fault)
+}
+
+// Adds a datagram with these options to arguments.
+fn put_datagram(alloc: Global, words: &mut Vec<String>, options: &[u8]) -> Result<(), AllocError> {
+    let bytes = datagram(alloc, options)?;
+    words.push(hex::encode(alloc, bytes)?)?;
+    Ok(())
 }
 
 // Reports whether each row of `PRINTED` is printed as expected.

@@ -1,4 +1,4 @@
-use crate::support::{DISCOVER, Fault, datagram, program_in, token_file};
+use crate::support::{DISCOVER, Fault, datagram, expect, is_written, program_in, token_file};
 use kd_classes::{ClassDef, ClassFault, Classes, OptionData, OptionList};
 use kd_machine::Held;
 use kd_options::Message;
@@ -28,18 +28,34 @@ fn define(
     Ok(())
 }
 
-// Makes four definitions: option 60 in lower case followed by `1` is `kd1`; no test; member of A
+// Adds a definition whose test is in the file of `count` tokens with these names.
+fn define_tested(
+    alloc: Global,
+    list: &mut Vec<ClassDef>,
+    name: &[u8],
+    names: &[u8],
+    count: u8,
+    tokens: &[u8],
+) -> Result<(), Fault> {
+    let test = test(alloc, names, count, tokens)?;
+    Ok(define(alloc, list, name, test)?)
+}
+
+// Adds four definitions: option 60 in lower case followed by `1` is `kd1`; no test; member of A
 // and not of B; member of C.
+fn define_four(alloc: Global, list: &mut Vec<ClassDef>) -> Result<(), Fault> {
+    let lower = b"\x03\x3c\x11\x01\x00\x011\x0f\x01\x00\x03kd1\x09";
+    define_tested(alloc, list, b"A", b"\x00", 6, lower)?;
+    define(alloc, list, b"B", None)?;
+    let alone = b"\x08\x00\x08\x01\x0a\x0b";
+    define_tested(alloc, list, b"C", b"\x02\x01A\x01B", 4, alone)?;
+    define_tested(alloc, list, b"", b"\x01\x01C", 1, b"\x08\x00")
+}
+
+// Makes those four.
 fn classes(alloc: Global) -> Result<Classes, Fault> {
     let mut list = Vec::new(alloc);
-    let lower = b"\x03\x3c\x11\x01\x00\x011\x0f\x01\x00\x03kd1\x09";
-    let vendor = test(alloc, b"\x00", 6, lower)?;
-    define(alloc, &mut list, b"A", vendor)?;
-    define(alloc, &mut list, b"B", None)?;
-    let alone = test(alloc, b"\x02\x01A\x01B", 4, b"\x08\x00\x08\x01\x0a\x0b")?;
-    define(alloc, &mut list, b"C", alone)?;
-    let member = test(alloc, b"\x01\x01C", 1, b"\x08\x00")?;
-    define(alloc, &mut list, b"", member)?;
+    define_four(alloc, &mut list)?;
     Ok(Classes::new(list)?)
 }
 
@@ -53,24 +69,39 @@ fn held(alloc: Global) -> Result<Held, Fault> {
 // Returns the names that a datagram then holds.
 fn held_over(alloc: Global, classes: &Classes, bytes: &[u8]) -> Result<Held, Fault> {
     let message = Message::read(alloc, bytes)?;
-    Ok(classes.held(alloc, &message)?)
+    held_of(alloc, classes, &message)
+}
+
+// Returns the names that a message then holds.
+fn held_of(alloc: Global, classes: &Classes, message: &Message<'_>) -> Result<Held, Fault> {
+    Ok(classes.held(alloc, message)?)
 }
 
 #[test]
 fn definitions_stand_at_their_indexes(rt: HostRuntime) -> Result<(), Fail> {
-    let names: [&[u8]; 4] = [b"A", b"B", b"C", b""];
     match classes(rt.alloc()) {
-        Ok(classes) => {
-            assert!(rt; classes.len() == 4);
-            for (index, name) in names.iter().enumerate() {
-                let found = classes.def_at(index).map(|def| def.name.as_slice());
-                assert!(rt; found == Some(*name));
-            }
-            assert!(rt; classes.def_at(4).is_none());
-        }
-        Err(fault) => assert!(rt; fault == Fault::Memory),
+        Ok(classes) => expect_four(&classes),
+        Err(fault) => expect(fault == Fault::Memory, "want of memory"),
     }
-    Ok(())
+}
+
+// Checks that the four definitions stand at their indexes.
+fn expect_four(classes: &Classes) -> Result<(), Fail> {
+    let names: [&[u8]; 4] = [b"A", b"B", b"C", b""];
+    expect(classes.len() == 4, "four definitions")?;
+    for (index, name) in names.iter().enumerate() {
+        let stands = is_named(classes, index, name);
+        expect(stands, "a definition by its index")?;
+    }
+    expect(classes.def_at(4).is_none(), "no fifth definition")
+}
+
+// Reports whether the definition at an index has this name.
+fn is_named(classes: &Classes, index: usize, name: &[u8]) -> bool {
+    match classes.def_at(index) {
+        Some(def) => def.name.as_slice() == name,
+        None => false,
+    }
 }
 
 // Reports whether exactly these names are held, in this order.
@@ -83,17 +114,20 @@ fn are(held: &Held, names: &[&[u8]]) -> bool {
     held.name_at(names.len()).is_none()
 }
 
+// Reports whether exactly these names are held after the four definitions, in this order.
+fn are_held(alloc: Global, names: &[&[u8]]) -> Result<bool, Fault> {
+    let held = held(alloc)?;
+    Ok(are(&held, names))
+}
+
 // Names are added in the order of their definitions. If a memory request is refused, the call
 // reports it; the same call repeated gives the same as with enough memory.
 #[test]
 fn want_of_memory_is_answered_as_such(rt: HostRuntime) -> Result<(), Fail> {
     let names: [&[u8]; 5] = [b"ALL", b"VENDOR_CLASS_kd", b"A", b"C", b""];
-    match held(rt.alloc()) {
-        Ok(held) => assert!(rt; are(&held, &names)),
-        Err(fault) => assert!(rt; fault == Fault::Memory),
-    }
-    let again = held(rt.alloc()).map(|held| are(&held, &names));
-    assert!(rt; again == Ok(true));
+    let first = are_held(rt.alloc(), &names);
+    assert!(rt; matches!(first, Ok(true) | Err(Fault::Memory)));
+    assert!(rt; are_held(rt.alloc(), &names) == Ok(true));
     Ok(())
 }
 
@@ -106,19 +140,27 @@ fn numbered(alloc: Global, count: u16) -> Result<Vec<ClassDef>, AllocError> {
     Ok(list)
 }
 
+// Makes `count` definitions, each named A.
+fn alike(alloc: Global, count: u16) -> Result<Vec<ClassDef>, AllocError> {
+    let mut list = Vec::new(alloc);
+    for _ in 0..count {
+        define(alloc, &mut list, b"A", None)?;
+    }
+    Ok(list)
+}
+
+// Returns how many classes such definitions are.
+fn count(list: Vec<ClassDef>) -> Result<usize, ClassFault> {
+    Ok(Classes::new(list)?.len())
+}
+
 // A configuration's list of classes is refused before it has this many.
 #[test]
 fn there_are_at_most_256_definitions(rt: HostRuntime) -> Result<(), Fail> {
-    let most = Classes::new(numbered(rt.alloc(), 256)?);
-    assert!(rt; most.map(|classes| classes.len()) == Ok(256));
-    let over = Classes::new(numbered(rt.alloc(), 257)?);
-    assert!(rt; over.err() == Some(ClassFault::TooMany));
+    assert!(rt; count(numbered(rt.alloc(), 256)?) == Ok(256));
+    assert!(rt; count(numbered(rt.alloc(), 257)?) == Err(ClassFault::TooMany));
     // The fault comes before any other.
-    let mut same = Vec::new(rt.alloc());
-    for _ in 0..257 {
-        define(rt.alloc(), &mut same, b"A", None)?;
-    }
-    assert!(rt; Classes::new(same).err() == Some(ClassFault::TooMany));
+    assert!(rt; count(alike(rt.alloc(), 257)?) == Err(ClassFault::TooMany));
     Ok(())
 }
 
@@ -129,23 +171,44 @@ fn faults_have_their_numbers(rt: HostRuntime) -> Result<(), Fail> {
     assert!(rt; ClassFault::Duplicate(7).number() == 60);
     assert!(rt; ClassFault::UnknownMember(255).number() == 61);
     assert!(rt; ClassFault::TooMany.number() == 62);
-    let text = format!(in rt.alloc(); "{}", ClassFault::TooMany)?;
-    assert!(rt; text.as_str() == "TooMany");
+    assert!(rt; is_written(rt.alloc(), ClassFault::TooMany, "TooMany")?);
     Ok(())
+}
+
+// Adds an option to a list.
+fn put_option(
+    alloc: Global,
+    options: &mut Vec<OptionData>,
+    code: u8,
+    value: &[u8],
+) -> Result<(), AllocError> {
+    let value = Bytes::own(Vec::from_slice(alloc, value)?);
+    options.push(OptionData { code, value })?;
+    Ok(())
+}
+
+// Makes a list of two options.
+fn two_options(alloc: Global) -> Result<OptionList, AllocError> {
+    let mut options = Vec::new(alloc);
+    put_option(alloc, &mut options, 3, b"\x0a\x00\x00\x01")?;
+    put_option(alloc, &mut options, 6, b"")?;
+    Ok(OptionList::own(options))
+}
+
+// Checks what that list says of its options.
+fn expect_two(list: &OptionList) -> Result<(), Fail> {
+    let [first, second] = list.as_slice() else {
+        return Err("two options".into());
+    };
+    expect((first.code, second.code) == (3, 6), "the codes")?;
+    let want = b"\x0a\x00\x00\x01".as_slice();
+    expect(first.value.as_slice() == want, "the first value")
 }
 
 #[test]
 fn a_list_gives_its_options_back(rt: HostRuntime) -> Result<(), Fail> {
-    let mut options = Vec::new(rt.alloc());
-    for (code, value) in [(3u8, b"\x0a\x00\x00\x01".as_slice()), (6, b"")] {
-        let value = Bytes::own(Vec::from_slice(rt.alloc(), value)?);
-        options.push(OptionData { code, value })?;
-    }
-    let list = OptionList::own(options);
-    assert!(rt; list.as_slice().len() == 2);
-    assert!(rt; (list.as_slice()[0].code, list.as_slice()[1].code) == (3, 6));
-    let first = list.as_slice()[0].value.as_slice();
-    assert!(rt; first == b"\x0a\x00\x00\x01".as_slice());
+    let list = two_options(rt.alloc())?;
+    expect_two(&list)?;
     assert!(rt; list.into_vec().len() == 2);
     Ok(())
 }

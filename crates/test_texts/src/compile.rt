@@ -1,24 +1,23 @@
-use crate::support::{DISCOVER, Fault, datagram, outcome_over};
+use crate::support::{
+    DISCOVER, Fault, base_of, datagram, expect, is_written, outcome_over, run, typed_of,
+};
 use kd_compile::{CompileFault, compile};
-use kd_expr::{ExprFault, Typed, read, type_of};
-use kd_machine::{Held, Outcome, eval};
+use kd_expr::{ExprFault, Typed};
+use kd_machine::{Held, Outcome};
 use kd_options::Message;
 use kd_token::Verified;
 use std::alloc::Global;
 use std::test::Fail;
 
-// Returns the class test in a text.
-fn typed_of(alloc: Global, text: &[u8]) -> Result<Typed, Fault> {
-    match type_of(read(alloc, text)?) {
-        Ok(typed) => Ok(typed),
-        Err((_fault, _expr)) => Err(Fault::Other),
-    }
-}
-
-// Returns the program that it is compiled to.
+// Returns the program that the class test in a text is compiled to.
 fn program_of(alloc: Global, text: &[u8]) -> Result<Verified, Fault> {
     let typed = typed_of(alloc, text)?;
-    Ok(compile(alloc, &typed)?)
+    program_for(alloc, &typed)
+}
+
+// Returns the program that a class test is compiled to.
+fn program_for(alloc: Global, typed: &Typed) -> Result<Verified, Fault> {
+    Ok(compile(alloc, typed)?)
 }
 
 // Returns the outcome of a class test over a datagram, with the names that the message has before
@@ -37,6 +36,11 @@ const LONG: &[u8] =
 #[test]
 fn want_of_memory_is_answered_as_such(rt: HostRuntime) -> Result<(), Fail> {
     let bytes = datagram(rt.alloc(), DISCOVER)?;
+    expect_again(rt.alloc(), &bytes)
+}
+
+// Checks two calls for each of two class tests over a DISCOVER.
+fn expect_again(alloc: Global, bytes: &[u8]) -> Result<(), Fail> {
     for (text, value, steps, peak_length) in [
         (b"option[60].hex == 'a'".as_slice(), false, 3, 2),
         (LONG, true, 9, 6),
@@ -47,9 +51,11 @@ fn want_of_memory_is_answered_as_such(rt: HostRuntime) -> Result<(), Fail> {
             peak_depth: 2,
             peak_length,
         };
-        let first = outcome(rt.alloc(), text, &bytes);
-        assert!(rt; first == Ok(want) || first == Err(Fault::Memory));
-        assert!(rt; outcome(rt.alloc(), text, &bytes) == Ok(want));
+        let first = outcome(alloc, text, bytes);
+        let is_reported = first == Ok(want) || first == Err(Fault::Memory);
+        expect(is_reported, "an outcome, or want of memory")?;
+        let again = outcome(alloc, text, bytes)?;
+        expect(again == want, "the same call repeated")?;
     }
     Ok(())
 }
@@ -69,28 +75,55 @@ const BORROWING: [(&[u8], bool, u32, u32); 2] = [
 // Whichever request for memory is refused, a run of such a program over a message that was read
 // is not affected.
 #[test]
-fn programs_that_borrow_every_value_take_no_memory(rt: HostRuntime) -> Result<(), Fault> {
+fn programs_that_borrow_every_value_take_no_memory(rt: HostRuntime) -> Result<(), Fail> {
     let bytes = datagram(rt.alloc(), DISCOVER)?;
-    let message = Message::read(rt.alloc(), &bytes)?;
-    let held = Held::base(rt.alloc(), &message)?;
+    expect_over(rt.alloc(), &bytes)
+}
+
+// Checks such runs over the message in a datagram.
+fn expect_over(alloc: Global, bytes: &[u8]) -> Result<(), Fail> {
+    let message = Message::read(alloc, bytes)?;
+    expect_over_message(alloc, &message)
+}
+
+// Checks them over a message.
+fn expect_over_message(alloc: Global, message: &Message<'_>) -> Result<(), Fail> {
+    let held = base_of(alloc, message)?;
+    expect_runs(alloc, message, &held)
+}
+
+// Checks them over a message that has these names.
+fn expect_runs(alloc: Global, message: &Message<'_>, held: &Held) -> Result<(), Fail> {
     for (text, value, steps, peak_length) in BORROWING {
-        let program = program_of(rt.alloc(), text)?;
         let want = Outcome {
             value,
             steps,
             peak_depth: 2,
             peak_length,
         };
-        assert!(rt; eval(rt.alloc(), &program, &message, &held) == Ok(want));
+        expect_run(alloc, text, message, held, want)?;
     }
     Ok(())
+}
+
+// Checks the outcome of one of those class tests.
+fn expect_run(
+    alloc: Global,
+    text: &[u8],
+    message: &Message<'_>,
+    held: &Held,
+    want: Outcome,
+) -> Result<(), Fail> {
+    let program = program_of(alloc, text)?;
+    let found = run(alloc, &program, message, held);
+    expect(found == Ok(want), "the outcome of a program that borrows")
 }
 
 #[test]
 fn want_of_memory_is_fault_91(rt: HostRuntime) -> Result<(), Fail> {
     assert!(rt; ExprFault::Memory.number() == 91);
     assert!(rt; CompileFault::Memory.number() == 91);
-    let names = format!(in rt.alloc(); "{} {}", ExprFault::Memory, CompileFault::Memory)?;
-    assert!(rt; names.as_str() == "Memory Memory");
+    assert!(rt; is_written(rt.alloc(), ExprFault::Memory, "Memory")?);
+    assert!(rt; is_written(rt.alloc(), CompileFault::Memory, "Memory")?);
     Ok(())
 }

@@ -1,14 +1,7 @@
-use kd_expr::{Expr, ExprFault, Node, Typed, read, read_address, type_of};
+use crate::support::{Fault, expect, typed_of};
+use kd_expr::{Expr, ExprFault, Node, TypeFault, Typed, read, read_address, type_of};
 use std::alloc::Global;
 use std::test::Fail;
-
-// Returns the class test in a text.
-fn test_of(alloc: Global, text: &[u8]) -> Result<Typed, Fail> {
-    match type_of(read(alloc, text)?) {
-        Ok(typed) => Ok(typed),
-        Err((fault, _expr)) => Err(fault.into()),
-    }
-}
 
 // Reports whether a tree is the negation of a comparison of two values, with these positions of the
 // four nodes, each node before its operands.
@@ -22,13 +15,28 @@ fn has_places(tree: &Node, places: [usize; 4]) -> bool {
     [tree.at(), operand.at(), left.at(), right.at()] == places
 }
 
+// Returns the fault of a text that is no expression.
+fn fault_of(alloc: Global, text: &[u8]) -> Option<ExprFault> {
+    read(alloc, text).err()
+}
+
+// Returns how many nodes a class test has.
+fn count_nodes(alloc: Global, text: &[u8]) -> Result<u32, Fault> {
+    let typed = typed_of(alloc, text)?;
+    Ok(typed.nodes())
+}
+
 // The rest of the tree shows in what a class test is compiled to, which the cases cover.
 #[test]
 fn nodes_have_their_places(rt: HostRuntime) -> Result<(), Fail> {
-    let typed = test_of(rt.alloc(), b" not 'a' + 'b' == '\x00\xff \"#'")?;
-    assert!(rt; has_places(typed.tree(), [1, 5, 5, 18]));
-    assert!(rt; typed.nodes() == 6);
-    Ok(())
+    let typed = typed_of(rt.alloc(), b" not 'a' + 'b' == '\x00\xff \"#'")?;
+    expect_places(&typed)
+}
+
+// Checks the places of the nodes of that class test, and how many they are.
+fn expect_places(typed: &Typed) -> Result<(), Fail> {
+    expect(has_places(typed.tree(), [1, 5, 5, 18]), "four places")?;
+    expect(typed.nodes() == 6, "six nodes")
 }
 
 // Texts that cannot be arguments of a command line, because they are not UTF-8 or contain a zero
@@ -44,7 +52,7 @@ fn bytes_that_no_word_has_are_bad(rt: HostRuntime) {
     ];
     for (text, at) in rows {
         assert!(rt;
-            read(rt.alloc(), text).err() == Some(ExprFault::BadToken(at)),
+            fault_of(rt.alloc(), text) == Some(ExprFault::BadToken(at)),
             "{text:?}"
         );
     }
@@ -55,10 +63,15 @@ fn bytes_that_no_word_has_are_bad(rt: HostRuntime) {
 fn is_refused_twice(expr: Expr) -> bool {
     match type_of(expr) {
         Ok(_typed) => false,
-        Err((fault, again)) => match type_of(again) {
-            Ok(_typed) => false,
-            Err((second, _again)) => second == fault,
-        },
+        Err((fault, again)) => type_fault_of(again) == Some(fault),
+    }
+}
+
+// Returns the type fault of an expression that is no class test.
+fn type_fault_of(expr: Expr) -> Option<TypeFault> {
+    match type_of(expr) {
+        Ok(_typed) => None,
+        Err((fault, _expr)) => Some(fault),
     }
 }
 
@@ -98,6 +111,14 @@ fn addresses_are_four_small_numbers(rt: HostRuntime) {
 const TEXT: &[u8] =
     b"not (member('a') or ifelse(1 == 2,lcase('b') + 0x123,substring(ucase(1.2.3.4),0,all)) == '') and uint32totext(3) == hexstring('c',':')";
 
+// Checks that a text has this fault, or want of memory at the first of two calls.
+fn expect_fault(alloc: Global, text: &[u8], want: Option<ExprFault>) -> Result<(), Fail> {
+    let first = fault_of(alloc, text);
+    let is_reported = first == want || first == Some(ExprFault::Memory);
+    expect(is_reported, "a fault, or want of memory")?;
+    expect(fault_of(alloc, text) == want, "the same call repeated")
+}
+
 // Each of these calls may meet the one memory request that is refused.
 #[test]
 fn want_of_memory_is_answered_as_such(rt: HostRuntime) -> Result<(), Fail> {
@@ -110,10 +131,8 @@ fn want_of_memory_is_answered_as_such(rt: HostRuntime) -> Result<(), Fail> {
         ),
     ];
     for (text, want) in rows {
-        let first = read(rt.alloc(), text).err();
-        assert!(rt; first == want || first == Some(ExprFault::Memory));
-        assert!(rt; read(rt.alloc(), text).err() == want);
+        expect_fault(rt.alloc(), text, want)?;
     }
-    assert!(rt; test_of(rt.alloc(), TEXT)?.nodes() == 24);
+    assert!(rt; count_nodes(rt.alloc(), TEXT)? == 24);
     Ok(())
 }

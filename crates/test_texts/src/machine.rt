@@ -1,14 +1,22 @@
-use crate::support::{DISCOVER, Fault, datagram, is, outcome_over, program_in, token_file};
+use crate::support::{
+    DISCOVER, Fault, base_of, datagram, expect, is, outcome_over, program_in, token_file,
+};
 use kd_machine::{Held, Outcome};
 use kd_options::Message;
+use kd_token::Verified;
 use std::alloc::{AllocError, Global};
 use std::test::Fail;
 
 // Returns the names that a DISCOVER of vendor class `kd` holds before any definition.
 fn base(alloc: Global) -> Result<Held, Fault> {
     let bytes = datagram(alloc, DISCOVER)?;
-    let message = Message::read(alloc, &bytes)?;
-    Ok(Held::base(alloc, &message)?)
+    base_over(alloc, &bytes)
+}
+
+// Returns the names that the message in a datagram holds before any definition.
+fn base_over(alloc: Global, bytes: &[u8]) -> Result<Held, Fault> {
+    let message = Message::read(alloc, bytes)?;
+    base_of(alloc, &message)
 }
 
 // Names that are added, and the names held afterwards.
@@ -38,12 +46,17 @@ fn are(held: &Held, names: &[&[u8]]) -> bool {
 }
 
 #[test]
-fn a_name_is_added_once_and_last(rt: HostRuntime) -> Result<(), Fault> {
+fn a_name_is_added_once_and_last(rt: HostRuntime) -> Result<(), Fail> {
     let mut held = base(rt.alloc())?;
-    assert!(rt; held.contains(b"ALL") && !held.contains(b""));
-    assert!(rt; holds_each(&mut held)?);
-    assert!(rt; are(&held, &HELD));
-    Ok(())
+    expect_added(&mut held)
+}
+
+// Checks the names that are held before and after each is added.
+fn expect_added(held: &mut Held) -> Result<(), Fail> {
+    let has_all = held.contains(b"ALL") && !held.contains(b"");
+    expect(has_all, "the names before any is added")?;
+    expect(holds_each(held)?, "each name that is added")?;
+    expect(are(held, &HELD), "the names in their order")
 }
 
 // Compares the digits of two joined literals, in lower case, with `61:62`: 8 tokens, at most 2
@@ -54,8 +67,13 @@ const DIGITS: &[u8] = b"\x01\x00\x01a\x01\x00\x01b\x0f\x01\x00\x01:\x10\x11\x01\
 fn outcome(alloc: Global) -> Result<Outcome, Fault> {
     let file = token_file(alloc, b"\x00", 8, DIGITS)?;
     let program = program_in(alloc, &file)?;
+    outcome_for(alloc, &program)
+}
+
+// Returns the outcome of a program over a DISCOVER.
+fn outcome_for(alloc: Global, program: &Verified) -> Result<Outcome, Fault> {
     let bytes = datagram(alloc, DISCOVER)?;
-    outcome_over(alloc, &program, &bytes)
+    outcome_over(alloc, program, &bytes)
 }
 
 // If a memory request is refused, the call reports it; the same call repeated gives the same as

@@ -1,4 +1,4 @@
-use crate::support::{Fault, datagram, datagram_over, is};
+use crate::support::{Fault, datagram, datagram_over, expect, is, is_written};
 use kd_options::{AddressOption, Message, MessageType, ReadFault, laws};
 use std::alloc::Global;
 use std::test::Fail;
@@ -40,14 +40,23 @@ fn has_sub_options(message: &Message<'_>) -> bool {
 // Option 82 has sub-options 1, empty, 2 `z`, and 2 again.
 #[test]
 fn a_message_tells_its_parts(rt: HostRuntime) -> Result<(), Fail> {
+    assert!(rt; AddressOption::RequestedAddress.code() == 50);
     let options = b"\x35\x01\x01\x3c\x02kd\x52\x08\x01\x00\x02\x01z\x02\x01y\xff";
     let bytes = datagram(rt.alloc(), options)?;
-    let message = Message::read(rt.alloc(), &bytes)?;
-    assert!(rt; has_header(&message));
-    assert!(rt; has_options(&message));
-    assert!(rt; has_sub_options(&message));
-    assert!(rt; AddressOption::RequestedAddress.code() == 50);
-    Ok(())
+    expect_message(rt.alloc(), &bytes)
+}
+
+// Checks the message in that datagram.
+fn expect_message(alloc: Global, bytes: &[u8]) -> Result<(), Fail> {
+    let message = Message::read(alloc, bytes)?;
+    expect_parts(&message)
+}
+
+// Checks the parts of that message.
+fn expect_parts(message: &Message<'_>) -> Result<(), Fail> {
+    expect(has_header(message), "the header")?;
+    expect(has_options(message), "three options")?;
+    expect(has_sub_options(message), "two sub-options")
 }
 
 // Reports whether option 61 is joined from its pieces in the three areas of a datagram.
@@ -58,7 +67,12 @@ fn is_joined(alloc: Global) -> Result<bool, Fault> {
         b"\x3d\x01\xbb\xff",
         b"\x35\x01\x01\x34\x01\x03\x3d\x02\x01\xaa\xff",
     )?;
-    let message = Message::read(alloc, &bytes)?;
+    has_joined(alloc, &bytes)
+}
+
+// Reports whether the message in a datagram has that option 61.
+fn has_joined(alloc: Global, bytes: &[u8]) -> Result<bool, Fault> {
+    let message = Message::read(alloc, bytes)?;
     Ok(is(message.option(61), b"\x01\xaa\xbb\xcc"))
 }
 
@@ -67,11 +81,10 @@ fn is_joined(alloc: Global) -> Result<bool, Fault> {
 #[test]
 fn want_of_memory_is_answered_as_such(rt: HostRuntime) -> Result<(), Fail> {
     let first = is_joined(rt.alloc());
-    assert!(rt; first == Ok(true) || first == Err(Fault::Memory));
+    assert!(rt; matches!(first, Ok(true) | Err(Fault::Memory)));
     assert!(rt; is_joined(rt.alloc()) == Ok(true));
     assert!(rt; ReadFault::Memory.number() == 91);
-    let text = format!(in rt.alloc(); "{}", ReadFault::Memory)?;
-    assert!(rt; text.as_str() == "Memory");
+    assert!(rt; is_written(rt.alloc(), ReadFault::Memory, "Memory")?);
     Ok(())
 }
 

@@ -1,5 +1,7 @@
 ghost use Rattle.kd_wire.specs.Area.{IsCode};
+ghost use Rattle.std.specs.Prelude.{◌≤◌};
 
+use crate::support::{expect, is_written};
 use kd_options::{Item, Items, Reply, WriteFault};
 use kd_wire::{Bytes, Header};
 use std::alloc::{AllocError, Global};
@@ -17,12 +19,26 @@ fn item(alloc: Global, code: u8, value: &[u8]) -> Result<Item, AllocError>
     })
 }
 
+// Adds an option to a list.
+fn put_item(alloc: Global, list: &mut Vec<Item>, code: u8, value: &[u8]) -> Result<(), AllocError>
+    requires { IsCode code }
+{
+    list.push(item(alloc, code, value)?)?;
+    Ok(())
+}
+
+// The options of an ACK with a client identifier of 100 bytes.
+fn two_items(alloc: Global) -> Result<Items, AllocError> {
+    let mut list = Vec::new(alloc);
+    put_item(alloc, &mut list, 53, b"\x05")?;
+    put_item(alloc, &mut list, 61, &[7; 100])?;
+    Ok(Items::own(list))
+}
+
 // An ACK with a client identifier of 100 bytes. With the cookie and the end option it has 346
 // bytes.
 fn ack(alloc: Global) -> Result<Reply, AllocError> {
-    let mut list = Vec::new(alloc);
-    list.push(item(alloc, 53, b"\x05")?)?;
-    list.push(item(alloc, 61, &[7; 100])?)?;
+    let items = two_items(alloc)?;
     Ok(Reply {
         header: Header {
             op: 2,
@@ -40,34 +56,49 @@ fn ack(alloc: Global) -> Result<Reply, AllocError> {
             sname: [0; 64],
             file: [0; 128],
         },
-        items: Items::own(list),
+        items,
     })
 }
 
 #[test]
 fn a_reply_fits_or_is_too_long(rt: HostRuntime) -> Result<(), Fail> {
-    let reply = ack(rt.alloc())?;
-    assert!(rt; reply.fits(346));
-    assert!(rt; !reply.fits(345));
-    let fault = reply.write(rt.alloc(), 345).err();
-    assert!(rt; fault == Some(WriteFault::TooLong));
     assert!(rt; WriteFault::TooLong.number() == 10);
-    let text = format!(in rt.alloc(); "{}", WriteFault::TooLong)?;
-    assert!(rt; text.as_str() == "TooLong");
-    assert!(rt; reply.items.as_slice().len() == 2);
+    assert!(rt; is_written(rt.alloc(), WriteFault::TooLong, "TooLong")?);
+    let reply = ack(rt.alloc())?;
+    expect_limit(rt.alloc(), &reply)?;
     assert!(rt; reply.items.into_vec().len() == 2);
     Ok(())
+}
+
+// Checks the lengths that a reply of 346 bytes fits, and its options.
+fn expect_limit(alloc: Global, reply: &Reply) -> Result<(), Fail> {
+    expect(reply.fits(346), "a reply of the most bytes")?;
+    expect(!reply.fits(345), "a reply of one byte too many")?;
+    let fault = measure(alloc, reply, 345).err();
+    expect(fault == Some(WriteFault::TooLong), "a reply too long")?;
+    expect(reply.items.as_slice().len() == 2, "two options")
 }
 
 // If an allocation is refused, the call reports Memory, and the same call repeated gives the text.
 #[test]
 fn want_of_memory_is_answered_as_such(rt: HostRuntime) -> Result<(), Fail> {
-    let reply = ack(rt.alloc())?;
-    let first = reply.write(rt.alloc(), 548).map(|bytes| bytes.len());
-    assert!(rt; first == Ok(346) || first == Err(WriteFault::Memory));
-    assert!(rt; reply.write(rt.alloc(), 548)?.len() == 346);
     assert!(rt; WriteFault::Memory.number() == 91);
-    let text = format!(in rt.alloc(); "{}", WriteFault::Memory)?;
-    assert!(rt; text.as_str() == "Memory");
-    Ok(())
+    assert!(rt; is_written(rt.alloc(), WriteFault::Memory, "Memory")?);
+    let reply = ack(rt.alloc())?;
+    expect_again(rt.alloc(), &reply)
+}
+
+// Checks the length of a reply's text at two calls.
+fn expect_again(alloc: Global, reply: &Reply) -> Result<(), Fail> {
+    let first = measure(alloc, reply, 548);
+    let is_reported = matches!(first, Ok(346) | Err(WriteFault::Memory));
+    expect(is_reported, "346 bytes, or want of memory")?;
+    expect(measure(alloc, reply, 548)? == 346, "346 bytes")
+}
+
+// Returns how many bytes a reply's text has, of at most this many.
+fn measure(alloc: Global, reply: &Reply, most: u16) -> Result<usize, WriteFault>
+    requires { 300 ≤ most }
+{
+    Ok(reply.write(alloc, most)?.len())
 }

@@ -1,10 +1,12 @@
 use kd_classes::ClassFault;
 use kd_compile::CompileFault;
-use kd_expr::ExprFault;
+use kd_expr::{ExprFault, Typed, read, type_of};
 use kd_machine::{EvalFault, Held, Outcome, eval};
 use kd_options::{Message, ReadFault};
 use kd_token::{FileFault, Program, Verified, VerifyFault, verify};
 use std::alloc::{AllocError, Global};
+use std::fmt::Display;
+use std::test::Fail;
 
 /// Why a call returns nothing.
 #[derive(Clone, Copy, Debug, PartialEq, Eq)]
@@ -81,7 +83,19 @@ pub(crate) fn datagram_over(
     file: &[u8],
     options: &[u8],
 ) -> Result<Vec<u8>, AllocError> {
-    let mut bytes = Vec::from_slice(alloc, &[1, 1, 6, 0, 0, 0, 0, 1])?;
+    let mut bytes = Vec::new(alloc);
+    put_datagram(&mut bytes, sname, file, options)?;
+    Ok(bytes)
+}
+
+// Writes that datagram at the end of an empty vector.
+fn put_datagram(
+    bytes: &mut Vec<u8>,
+    sname: &[u8],
+    file: &[u8],
+    options: &[u8],
+) -> Result<(), AllocError> {
+    bytes.extend_from_slice(&[1, 1, 6, 0, 0, 0, 0, 1])?;
     bytes.resize(28, 0)?;
     bytes.extend_from_slice(b"\x0a\x00\x00\x00\x00\x01")?;
     bytes.resize(44, 0)?;
@@ -90,8 +104,7 @@ pub(crate) fn datagram_over(
     bytes.extend_from_slice(file)?;
     bytes.resize(236, 0)?;
     bytes.extend_from_slice(&COOKIE)?;
-    bytes.extend_from_slice(options)?;
-    Ok(bytes)
+    bytes.extend_from_slice(options)
 }
 
 /// Makes the token file of `count` tokens that declares the most that a program may and has these
@@ -102,11 +115,30 @@ pub(crate) fn token_file(
     count: u8,
     tokens: &[u8],
 ) -> Result<Vec<u8>, AllocError> {
-    let mut file = Vec::from_slice(alloc, b"K4TK\x02\x04\x00\x40\xff\xff")?;
+    let mut file = Vec::new(alloc);
+    put_token_file(&mut file, names, count, tokens)?;
+    Ok(file)
+}
+
+// Writes that file at the end of an empty vector.
+fn put_token_file(
+    file: &mut Vec<u8>,
+    names: &[u8],
+    count: u8,
+    tokens: &[u8],
+) -> Result<(), AllocError> {
+    file.extend_from_slice(b"K4TK\x02\x04\x00\x40\xff\xff")?;
     file.extend_from_slice(names)?;
     file.extend_from_slice(&[0, count])?;
-    file.extend_from_slice(tokens)?;
-    Ok(file)
+    file.extend_from_slice(tokens)
+}
+
+/// Returns the class test in a text.
+pub(crate) fn typed_of(alloc: Global, text: &[u8]) -> Result<Typed, Fault> {
+    match type_of(read(alloc, text)?) {
+        Ok(typed) => Ok(typed),
+        Err((_fault, _expr)) => Err(Fault::Other),
+    }
 }
 
 /// Returns the program of a token file that is accepted.
@@ -130,8 +162,38 @@ pub(crate) fn outcome_over(
 
 // Does the same over its message.
 fn outcome_of(alloc: Global, program: &Verified, message: &Message<'_>) -> Result<Outcome, Fault> {
-    let held = Held::base(alloc, message)?;
-    Ok(eval(alloc, program, message, &held)?)
+    let held = base_of(alloc, message)?;
+    run(alloc, program, message, &held)
+}
+
+/// Returns the names that a message has before any definition.
+pub(crate) fn base_of(alloc: Global, message: &Message<'_>) -> Result<Held, Fault> {
+    Ok(Held::base(alloc, message)?)
+}
+
+/// Returns the outcome of a program over a message that has these names.
+pub(crate) fn run(
+    alloc: Global,
+    program: &Verified,
+    message: &Message<'_>,
+    held: &Held,
+) -> Result<Outcome, Fault> {
+    Ok(eval(alloc, program, message, held)?)
+}
+
+/// Fails a test, naming what does not hold.
+pub(crate) fn expect(holds: bool, what: &str) -> Result<(), Fail> {
+    if holds { Ok(()) } else { Err(what.into()) }
+}
+
+/// Reports whether a fault is written as this text.
+pub(crate) fn is_written<D: Display + Drop>(
+    alloc: Global,
+    fault: D,
+    want: &str,
+) -> Result<bool, AllocError> {
+    let text = format!(in alloc; "{fault}")?;
+    Ok(text.as_str() == want)
 }
 
 /// Reports whether a value is present and has these bytes.

@@ -1,3 +1,4 @@
+use crate::support::{expect, is_written};
 use kd_token::{FileFault, Program, Token, VerifyFault, Version, Way, verify};
 use kd_wire::{Bytes, Field};
 use std::alloc::{AllocError, Global};
@@ -39,33 +40,54 @@ fn are_each(tokens: &[Token]) -> bool {
 
 // Reports whether a file's program is written back as that file.
 fn is_written_again(alloc: Global, file: &[u8]) -> Result<bool, FileFault> {
-    Ok(Program::read(alloc, file)?.write(alloc)?.as_slice() == file)
+    let program = Program::read(alloc, file)?;
+    Ok(has_file(alloc, &program, file)?)
+}
+
+// Reports whether a program is written as this file.
+fn has_file(alloc: Global, program: &Program, file: &[u8]) -> Result<bool, AllocError> {
+    Ok(program.write(alloc)?.as_slice() == file)
 }
 
 #[test]
 fn a_program_tells_its_parts_and_is_written_again(rt: HostRuntime) -> Result<(), Fail> {
-    let program = Program::read(rt.alloc(), EACH)?;
-    assert!(rt; declares_all(&program));
-    assert!(rt; are_each(program.tokens()));
     for file in [EACH, SHORT, CHOICE] {
         assert!(rt; is_written_again(rt.alloc(), file)?);
     }
-    Ok(())
+    let program = Program::read(rt.alloc(), EACH)?;
+    expect_parts(&program)
+}
+
+// Checks the parts of the program with each opcode.
+fn expect_parts(program: &Program) -> Result<(), Fail> {
+    expect(declares_all(program), "what the program declares")?;
+    expect(are_each(program.tokens()), "its tokens")
 }
 
 #[test]
 fn a_file_at_its_limits_is_read_and_written(rt: HostRuntime) -> Result<(), Fail> {
-    let mut file = Vec::from_slice(rt.alloc(), b"K4TK\x01\x04\x00\x40\xff\xff\x40")?;
+    let mut file = Vec::new(rt.alloc());
+    put_limits(&mut file)?;
+    let program = Program::read(rt.alloc(), &file)?;
+    expect_limits(rt.alloc(), &program, &file)
+}
+
+// Writes a file of 64 names and 1024 tokens at the end of an empty vector.
+fn put_limits(file: &mut Vec<u8>) -> Result<(), AllocError> {
+    file.extend_from_slice(b"K4TK\x01\x04\x00\x40\xff\xff\x40")?;
     for i in 0..64u8 {
         file.extend_from_slice(&[1, i])?;
     }
     file.extend_from_slice(b"\x04\x00")?;
-    file.resize(file.len() + 1024, 0x0a)?;
-    let program = Program::read(rt.alloc(), &file)?;
-    assert!(rt; program.tokens().len() == 1024);
-    assert!(rt; matches!(program.name_at(63), Some(&[63])));
-    assert!(rt; program.write(rt.alloc())?.as_slice() == file.as_slice());
-    Ok(())
+    file.resize(file.len() + 1024, 0x0a)
+}
+
+// Checks the program that is read from that file.
+fn expect_limits(alloc: Global, program: &Program, file: &[u8]) -> Result<(), Fail> {
+    expect(program.tokens().len() == 1024, "1024 tokens")?;
+    let is_last = matches!(program.name_at(63), Some(&[63]));
+    expect(is_last, "the last of 64 names")?;
+    expect(has_file(alloc, program, file)?, "the file written again")
 }
 
 #[test]
@@ -84,9 +106,14 @@ fn a_token_tells_its_way(rt: HostRuntime) {
 
 #[test]
 fn a_program_made_has_its_file(rt: HostRuntime) -> Result<(), Fail> {
-    let program = made(rt.alloc())?;
-    assert!(rt; program.write(rt.alloc())?.as_slice() == SHORT);
+    assert!(rt; is_made(rt.alloc())?);
     Ok(())
+}
+
+// Reports whether a program made by hand is written as its file.
+fn is_made(alloc: Global) -> Result<bool, AllocError> {
+    let program = made(alloc)?;
+    has_file(alloc, &program, SHORT)
 }
 
 // A program made by hand.
@@ -103,25 +130,45 @@ fn made(alloc: Global) -> Result<Program, AllocError> {
 // returned whole.
 fn answer(alloc: Global, file: &[u8]) -> Result<(Option<VerifyFault>, bool), FileFault> {
     match verify(alloc, Program::read(alloc, file)?) {
-        Ok(verified) => Ok((None, verified.program().write(alloc)?.as_slice() == file)),
-        Err((fault, program)) => Ok((Some(fault), program.write(alloc)?.as_slice() == file)),
+        Ok(verified) => answer_with(alloc, None, verified.program(), file),
+        Err((fault, program)) => answer_with(alloc, Some(fault), &program, file),
     }
+}
+
+// Returns this fault, and whether a program is written as the file.
+fn answer_with(
+    alloc: Global,
+    fault: Option<VerifyFault>,
+    program: &Program,
+    file: &[u8],
+) -> Result<(Option<VerifyFault>, bool), FileFault> {
+    Ok((fault, has_file(alloc, program, file)?))
+}
+
+// Reports whether the program is returned whole, without a fault or with that of memory, or memory
+// is refused before.
+fn is_accepted_or_memory(alloc: Global, file: &[u8]) -> bool {
+    matches!(
+        answer(alloc, file),
+        Ok((None | Some(VerifyFault::Memory), true)) | Err(FileFault::Memory)
+    )
+}
+
+// Checks that fault, and that the program is returned whole.
+fn expect_answer(alloc: Global, file: &[u8], fault: Option<VerifyFault>) -> Result<(), Fail> {
+    let found = answer(alloc, file);
+    expect(found == Ok((fault, true)), "what the verifier reports")
 }
 
 // If a memory request is refused, the call reports it and returns the program; the same call
 // repeated gives the same as with enough memory.
 #[test]
 fn want_of_memory_is_answered_as_such(rt: HostRuntime) -> Result<(), Fail> {
-    let first = answer(rt.alloc(), CHOICE);
-    assert!(rt;
-        first == Ok((None, true))
-            || first == Ok((Some(VerifyFault::Memory), true))
-            || first == Err(FileFault::Memory)
-    );
-    assert!(rt; answer(rt.alloc(), CHOICE) == Ok((None, true)));
-    assert!(rt; answer(rt.alloc(), REFUSED) == Ok((Some(VerifyFault::Short(1)), true)));
+    assert!(rt; is_accepted_or_memory(rt.alloc(), CHOICE));
+    expect_answer(rt.alloc(), CHOICE, None)?;
+    expect_answer(rt.alloc(), REFUSED, Some(VerifyFault::Short(1)))?;
     assert!(rt; (FileFault::Memory.number(), VerifyFault::Memory.number()) == (91, 91));
-    let text = format!(in rt.alloc(); "{} {}", FileFault::Memory, VerifyFault::Memory)?;
-    assert!(rt; text.as_str() == "Memory Memory");
+    assert!(rt; is_written(rt.alloc(), FileFault::Memory, "Memory")?);
+    assert!(rt; is_written(rt.alloc(), VerifyFault::Memory, "Memory")?);
     Ok(())
 }
