@@ -1,3 +1,4 @@
+use crate::support::look_at;
 use kd_classes::{ClassDef, Classes, OptionData, OptionList};
 use kd_config::{
     Config, ConfigFault, Identity, Pool, Prefix, Range, Reservation, Subnet, Times, TokenFile,
@@ -5,6 +6,7 @@ use kd_config::{
 use kd_token::Token;
 use kd_wire::Bytes;
 use std::alloc::{AllocError, Global};
+use std::process::Abort;
 use std::test::Fail;
 
 // A program of one token: option 61 is present.
@@ -65,15 +67,15 @@ fn is_built_in_pool(pool: &Pool) -> bool {
 fn the_built_in_text_has_the_settings_of_the_built_in_configuration(
     rt: HostRuntime,
 ) -> Result<(), Fail> {
-    assert!(rt; is_built_in(&Config::read(rt.alloc(), BUILT_IN, &[])?));
-    assert!(rt; is_built_in(&Config::builtin(rt.alloc())?));
+    assert!(rt; look_at(Config::read(rt.alloc(), BUILT_IN, &[]), is_built_in)?);
+    assert!(rt; look_at(Config::builtin(rt.alloc()), is_built_in)?);
     Ok(())
 }
 
 // Returns the times of a configuration with a server address and these further keys.
 fn times_of(alloc: Global, more: &str) -> Result<Times, Fail> {
     let text = format!(in alloc; "{{\"Dhcp4\":{{\"server-address\":\"192.0.2.1\"{more}}}}}")?;
-    Ok(Config::read(alloc, text.as_bytes(), &[])?.times())
+    Ok(look_at(Config::read(alloc, text.as_bytes(), &[]), Config::times)?)
 }
 
 // Returns the same with this lifetime.
@@ -115,7 +117,7 @@ fn has_no_lists(config: &Config) -> bool {
 #[test]
 fn lists_may_be_left_out(rt: HostRuntime) -> Result<(), Fail> {
     let text = br#"{"Dhcp4":{"server-address":"192.0.2.1"}}"#;
-    assert!(rt; has_no_lists(&Config::read(rt.alloc(), text, &[])?));
+    assert!(rt; look_at(Config::read(rt.alloc(), text, &[]), has_no_lists)?);
     Ok(())
 }
 
@@ -131,9 +133,12 @@ const FULL: &[u8] = br#"{"Dhcp4":{"server-address":"10.0.0.1","valid-lifetime":1
 {"client-id":"01","ip-address":"10.2.0.2"}],
 "option-data":[{"code":42,"data":"0a000002","csv-format":false}]},{"subnet":"0.0.0.0/0"}]}}"#;
 
-fn full(alloc: Global) -> Result<Config, Fail> {
-    let files = [file(alloc, b"b.k4tk", HAS_CLIENT)?];
-    Ok(Config::read(alloc, FULL, &files)?)
+// Makes that configuration, with the token file that it names.
+fn full(alloc: Global) -> Result<Config, ConfigFault> {
+    match file(alloc, b"b.k4tk", HAS_CLIENT) {
+        Ok(tokens) => Config::read(alloc, FULL, &[tokens]),
+        Err(AllocError) => Err(ConfigFault::Memory),
+    }
 }
 
 // Returns the option of a list that has only one.
@@ -184,7 +189,12 @@ fn are_three(classes: &Classes) -> bool {
 
 #[test]
 fn each_key_has_its_setting(rt: HostRuntime) -> Result<(), Fail> {
-    let config = full(rt.alloc())?;
+    look_at(full(rt.alloc()), |config| expect_settings(&rt, config))?;
+    Ok(())
+}
+
+// Checks the settings of that configuration, except for its subnets.
+fn expect_settings(rt: &impl Abort, config: &Config) {
     let times = Times {
         lifetime: 1000,
         renew: 100,
@@ -195,7 +205,6 @@ fn each_key_has_its_setting(rt: HostRuntime) -> Result<(), Fail> {
     assert!(rt; config.server() == 0x0a00_0001 && config.times() == times);
     assert!(rt; one(config.options()) == Some((6, b"\x0a\x00\x00\x01".as_slice())));
     assert!(rt; are_three(config.classes()));
-    Ok(())
 }
 
 // Reports whether a pool is 10.1.0.0/16 with its router.
@@ -271,7 +280,7 @@ fn are_both(subnets: &[Subnet]) -> bool {
 
 #[test]
 fn a_subnet_has_all_its_lists(rt: HostRuntime) -> Result<(), Fail> {
-    assert!(rt; are_both(full(rt.alloc())?.subnets()));
+    assert!(rt; look_at(full(rt.alloc()), |config| are_both(config.subnets()))?);
     Ok(())
 }
 
@@ -301,9 +310,9 @@ fn prefixes_and_pools_know_their_addresses(rt: HostRuntime) {
 
 // Returns the number and the text of the fault of a text, or `accepted`.
 fn answer(alloc: Global, text: &[u8], files: &[TokenFile]) -> Result<String, AllocError> {
-    match Config::read(alloc, text, files) {
-        Ok(_) => String::from_str(alloc, "accepted"),
-        Err(fault) => format!(in alloc; "{} {fault}", fault.number()),
+    match Config::read(alloc, text, files).err() {
+        None => String::from_str(alloc, "accepted"),
+        Some(fault) => format!(in alloc; "{} {fault}", fault.number()),
     }
 }
 
@@ -312,36 +321,47 @@ const BY_FILE: &[u8] =
     br#"{"Dhcp4":{"server-address":"192.0.2.1","client-classes":[{"name":"B","tokens":"t"}]}}"#;
 
 // Names and bytes of three token files, and the result with them.
-const FILES: [([(&[u8], &[u8]); 3], &str); 4] = [
-    ([(b"s", b""), (b"t", HAS_CLIENT), (b"t", b"")], "accepted"),
+const FILES: &[(&[(&[u8], &[u8])], &str)] = &[
+    (&[(b"s", b""), (b"t", HAS_CLIENT), (b"t", b"")], "accepted"),
     (
-        [(b"s", b""), (b"t", b"K4TX"), (b"t", HAS_CLIENT)],
+        &[(b"s", b""), (b"t", b"K4TX"), (b"t", HAS_CLIENT)],
         "78 Tokens 0 Magic",
     ),
     (
-        [(b"", HAS_CLIENT), (b"T", HAS_CLIENT), (b"tt", HAS_CLIENT)],
+        &[(b"", HAS_CLIENT), (b"T", HAS_CLIENT), (b"tt", HAS_CLIENT)],
         "78 Tokens 0 Absent",
     ),
     // A file that no class names is not read.
     (
-        [(b"t", HAS_CLIENT), (b"u", b""), (b"v", b"K4TX")],
+        &[(b"t", HAS_CLIENT), (b"u", b""), (b"v", b"K4TX")],
         "accepted",
     ),
 ];
 
-// Returns the result with these token files.
-fn answer_with(alloc: Global, rows: &[(&[u8], &[u8])]) -> Result<String, AllocError> {
+// Makes these token files.
+fn files_of(alloc: Global, rows: &[(&[u8], &[u8])]) -> Result<Vec<TokenFile>, AllocError> {
     let mut files = Vec::new(alloc);
     for (name, bytes) in rows {
         files.push(file(alloc, name, bytes)?)?;
     }
-    answer(alloc, BY_FILE, &files)
+    Ok(files)
+}
+
+// Reports whether this is the result with these token files.
+fn is_answer_with(alloc: Global, rows: &[(&[u8], &[u8])], want: &str) -> Result<bool, AllocError> {
+    let files = files_of(alloc, rows)?;
+    is_answer(alloc, &files, want)
+}
+
+// Reports whether this is the result with token files.
+fn is_answer(alloc: Global, files: &[TokenFile], want: &str) -> Result<bool, AllocError> {
+    Ok(answer(alloc, BY_FILE, files)?.as_str() == want)
 }
 
 #[test]
 fn of_files_with_equal_names_the_first_counts(rt: HostRuntime) -> Result<(), Fail> {
     for (rows, want) in FILES {
-        assert!(rt; answer_with(rt.alloc(), &rows)?.as_str() == want, "{want}");
+        assert!(rt; is_answer_with(rt.alloc(), rows, want)?, "{want}");
     }
     Ok(())
 }
@@ -379,9 +399,17 @@ const ROWS: [(&str, Option<u8>); 6] = [
 
 // Returns the number of the fault of a text.
 fn number_of(alloc: Global, text: &str, files: &[TokenFile]) -> Option<u8> {
-    match Config::read(alloc, text.as_bytes(), files) {
-        Ok(_) => None,
-        Err(fault) => Some(fault.number()),
+    Config::read(alloc, text.as_bytes(), files)
+        .err()
+        .map(|fault| fault.number())
+}
+
+// Checks the faults of those texts, each of which is read twice.
+fn expect_numbers(rt: &impl Abort, alloc: Global, files: &[TokenFile]) {
+    for (text, want) in ROWS {
+        let first = number_of(alloc, text, files);
+        assert!(rt; first == want || first == Some(91));
+        assert!(rt; number_of(alloc, text, files) == want);
     }
 }
 
@@ -389,11 +417,9 @@ fn number_of(alloc: Global, text: &str, files: &[TokenFile]) -> Option<u8> {
 // with enough memory.
 #[test]
 fn want_of_memory_is_answered_as_such(rt: HostRuntime) -> Result<(), Fail> {
-    let files = [file(rt.alloc(), b"t", HAS_CLIENT)?];
-    for (text, want) in ROWS {
-        let first = number_of(rt.alloc(), text, &files);
-        assert!(rt; first == want || first == Some(91));
-        assert!(rt; number_of(rt.alloc(), text, &files) == want);
+    {
+        let files = [file(rt.alloc(), b"t", HAS_CLIENT)?];
+        expect_numbers(&rt, rt.alloc(), &files);
     }
     let text = format!(in rt.alloc(); "{}", ConfigFault::Memory)?;
     assert!(rt; text.as_str() == "Memory");

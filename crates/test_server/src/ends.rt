@@ -96,12 +96,19 @@ fn row(alloc: Global, file: &TokenFile) -> Result<String, Fail> {
 
 // Returns the names and the bytes of a folder's token files, as a text of sorted rows.
 fn listed(rt: &HostRuntime, folder: &str) -> Result<String, Fail> {
-    let mut rows = Vec::new(rt.alloc());
-    for file in token_files(rt, folder)? {
-        rows.push(row(rt.alloc(), &file)?)?;
-    }
+    let files = token_files(rt, folder)?;
+    let mut rows = rows_of(rt.alloc(), &files)?;
     rows.sort()?;
     Ok(rows.join(rt.alloc(), "")?)
+}
+
+// Returns the rows of token files.
+fn rows_of(alloc: Global, files: &[TokenFile]) -> Result<Vec<String>, Fail> {
+    let mut rows = Vec::new(alloc);
+    for file in files {
+        rows.push(row(alloc, file)?)?;
+    }
+    Ok(rows)
 }
 
 // The names of files, and their texts.

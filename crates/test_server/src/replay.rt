@@ -4,6 +4,7 @@ use kd_event::Ports;
 use kd_replay::{ReplayFault, replay_bytes};
 use kd_server::{Server, replay};
 use std::alloc::{AllocError, Global};
+use std::process::Abort;
 use std::test::Fail;
 use test_tables::Fused;
 
@@ -223,13 +224,25 @@ const HELD: [(&str, &str, &str); 4] = [
     ("", "0", ""),
 ];
 
+// Checks that bytes replay with this result, to these lines.
+fn expect_held(
+    rt: &impl Abort,
+    alloc: Global,
+    input: &str,
+    want: &str,
+    output: &str,
+) -> Result<(), Fail> {
+    let work = ReplaysHeld(input.as_bytes());
+    let (lines, result) = with_server(alloc, PORTS, work)?;
+    assert!(rt; printed(alloc, result)?.as_str() == want, "{input}");
+    assert!(rt; lines.as_slice() == output.as_bytes(), "{input}");
+    Ok(())
+}
+
 #[test]
 fn bytes_that_are_held_replay_to_their_lines(rt: HostRuntime) -> Result<(), Fail> {
     for (input, want, output) in HELD {
-        let work = ReplaysHeld(input.as_bytes());
-        let (lines, result) = with_server(rt.alloc(), PORTS, work)?;
-        assert!(rt; printed(rt.alloc(), result)?.as_str() == want, "{input}");
-        assert!(rt; lines.as_slice() == output.as_bytes(), "{input}");
+        expect_held(&rt, rt.alloc(), input, want, output)?;
     }
     Ok(())
 }

@@ -1,4 +1,4 @@
-use crate::support::{COOKIE, Work, server_of, with_server};
+use crate::support::{COOKIE, Work, look_at, server_of, with_server};
 use kd_config::Config;
 use kd_event::{Destination, Event, Mode, Ports, Reason, Response};
 use kd_replay::ServeFault;
@@ -78,19 +78,29 @@ impl Work for Sends {
     }
 }
 
-// Returns the configuration that a server returns when it is closed.
-fn given_back(alloc: Global) -> Result<Config, AllocError> {
-    let config = Config::builtin(alloc)?;
-    let server = server_of(alloc, config, PORTS, u64::MAX)?;
-    let (config, _) = server.close();
-    Ok(config)
+// Reports whether a server returns its configuration when it is closed.
+fn gives_back(alloc: Global) -> Result<bool, AllocError> {
+    match Config::builtin(alloc) {
+        Ok(config) => look_at(parts_of(alloc, config), is_given_back),
+        Err(fault) => Err(fault),
+    }
+}
+
+// Returns the configuration and the store that a server returns when it is closed.
+fn parts_of(alloc: Global, config: Config) -> Result<(Config, Fused), AllocError> {
+    server_of(alloc, config, PORTS, u64::MAX).map(Server::close)
+}
+
+// Reports whether such a configuration has its address and its subnet.
+fn is_given_back(closed: &(Config, Fused)) -> bool {
+    let (config, _) = closed;
+    config.server() == 0xc000_0201 && config.subnets().len() == 1
 }
 
 #[test]
 fn a_server_has_its_ports_and_gives_its_configuration_back(rt: HostRuntime) -> Result<(), Fail> {
     assert!(rt; with_server(rt.alloc(), PORTS, Sends)?);
-    let config = given_back(rt.alloc())?;
-    assert!(rt; config.server() == 0xc000_0201 && config.subnets().len() == 1);
+    assert!(rt; gives_back(rt.alloc())?);
     Ok(())
 }
 

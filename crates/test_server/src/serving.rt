@@ -15,6 +15,7 @@ use kd_wire::Bytes;
 use std::alloc::{AllocError, Global};
 use std::fmt::Write;
 use std::net::{SocketAddr, UdpSocket};
+use std::process::Abort;
 use std::test::Fail;
 use std::time::Duration;
 use test_tables::Fused;
@@ -243,6 +244,9 @@ fn served_by<L: Link>(
     serve(alloc, link, &mut None::<Keeping>, sink, server, limits)
 }
 
+// How serving ends, what was written, and the last reply.
+type Shown = (Result<(), LoopFault>, Keeping, Vec<u8>);
+
 // Serves three datagrams when two arrive, and finds how that ends, what was written up to `until`
 // bytes, and the last reply.
 #[derive(Drop)]
@@ -252,13 +256,9 @@ struct Three {
 }
 
 impl Work for Three {
-    type Found = (Result<(), LoopFault>, Keeping, Vec<u8>);
+    type Found = Shown;
 
-    fn done(
-        self,
-        alloc: Global,
-        server: &mut Server<Fused>,
-    ) -> Result<(Result<(), LoopFault>, Keeping, Vec<u8>), Fail> {
+    fn done(self, alloc: Global, server: &mut Server<Fused>) -> Result<Shown, Fail> {
         let Three { loses, until } = self;
         let mut link = Wired::new(alloc, 2, loses)?;
         let mut sink = Keeping::new(alloc, usize::MAX, until);
@@ -274,8 +274,14 @@ fn serving_ends_where_nothing_is_received_and_tells_of_lost_replies(
 ) -> Result<(), Fail> {
     let alloc = rt.alloc();
     let (loses, until) = (true, usize::MAX);
-    let (result, sink, reply) = with_server(alloc, PORTS, Three { loses, until })?;
-    assert!(rt; result == Err(LoopFault::Read));
+    let served = with_server(alloc, PORTS, Three { loses, until })?;
+    expect_losses(&rt, alloc, &served)
+}
+
+// Checks that serving ends because nothing is received, and tells of two lost replies.
+fn expect_losses(rt: &impl Abort, alloc: Global, served: &Shown) -> Result<(), Fail> {
+    let (result, sink, reply) = served;
+    assert!(rt; *result == Err(LoopFault::Read));
     let line = offer_line(alloc, reply.as_slice())?;
     let wanted = format!(in alloc; "{line}fault 99 Send\n{line}fault 99 Send\n")?;
     assert!(rt; sink.as_slice() == wanted.as_bytes());
@@ -286,8 +292,14 @@ fn serving_ends_where_nothing_is_received_and_tells_of_lost_replies(
 fn serving_ends_where_a_line_is_not_written(rt: HostRuntime) -> Result<(), Fail> {
     let alloc = rt.alloc();
     let (loses, until) = (false, 700);
-    let (result, sink, reply) = with_server(alloc, PORTS, Three { loses, until })?;
-    assert!(rt; result == Err(LoopFault::Write));
+    let served = with_server(alloc, PORTS, Three { loses, until })?;
+    expect_cut(&rt, alloc, &served)
+}
+
+// Checks that serving ends because a line is not written, after 700 bytes of two lines.
+fn expect_cut(rt: &impl Abort, alloc: Global, served: &Shown) -> Result<(), Fail> {
+    let (result, sink, reply) = served;
+    assert!(rt; *result == Err(LoopFault::Write));
     let line = offer_line(alloc, reply.as_slice())?;
     let wanted = format!(in alloc; "{line}{line}")?;
     let written = sink.as_slice();
@@ -321,13 +333,12 @@ fn lines_of(text: &[u8]) -> usize {
     lines
 }
 
-// Serves `count` datagrams of a socket, up to 32 in a batch, and finds how that ends and how many
-// lines are written.
+// Serves the DISCOVERs of `clients` clients that wait at a socket, up to 32 in a batch, and finds
+// how that ends and how many lines are written.
 #[derive(Drop)]
 struct Crowd<'a> {
     rt: &'a HostRuntime,
-    socket: UdpSocket,
-    count: u64,
+    clients: u8,
 }
 
 impl<'a> Work for Crowd<'a> {
@@ -338,28 +349,25 @@ impl<'a> Work for Crowd<'a> {
         alloc: Global,
         server: &mut Server<Fused>,
     ) -> Result<(Result<(), LoopFault>, usize), Fail> {
-        let Crowd { rt, socket, count } = self;
-        let mut link = Socket::over(rt, socket, MIRRORED);
+        let Crowd { rt, clients } = self;
+        let mut link = Socket::over(rt, crowded(rt, clients)?, MIRRORED);
         let mut sink = Keeping::new(alloc, usize::MAX, usize::MAX);
-        let served = served_by(&mut link, &mut sink, server, alloc, limits(32, count));
+        let limits = limits(32, u64::from(clients));
+        let served = served_by(&mut link, &mut sink, server, alloc, limits);
         Ok((served, lines_of(sink.as_slice())))
     }
 }
 
-// Does the same with the DISCOVERs of `clients` clients waiting, over a store on which `calls`
-// calls succeed.
+// Does the same over a store on which `calls` calls succeed.
 fn waited(
     rt: &HostRuntime,
     clients: u8,
     calls: u64,
 ) -> Result<(Result<(), LoopFault>, usize), Fail> {
-    let work = Crowd {
-        rt,
-        socket: crowded(rt, clients)?,
-        count: u64::from(clients),
-    };
-    let config = Config::read(rt.alloc(), WIDE, &[])?;
-    with_server_of(rt.alloc(), config, PORTS, calls, work)
+    match Config::read(rt.alloc(), WIDE, &[]) {
+        Ok(config) => with_server_of(rt.alloc(), config, PORTS, calls, Crowd { rt, clients }),
+        Err(fault) => Err(fault.into()),
+    }
 }
 
 // How many clients wait, how many commits there are, and how many lines if the last commit fails.
@@ -406,21 +414,23 @@ fn last_of_yiaddr(reply: &[u8]) -> u8 {
 fn told(alloc: Global, log: &[Happening]) -> Result<String, AllocError> {
     let mut text = String::new(alloc);
     for happening in log {
-        match happening {
-            Happening::Came(true, bytes) => {
-                write!(text, "waited for {}\n", bytes.as_slice().len())?
-            }
-            Happening::Came(false, bytes) => write!(text, "waits {}\n", bytes.as_slice().len())?,
-            Happening::Said(moment) => write!(text, "said {moment}\n")?,
-            Happening::Passed(seconds) => write!(text, "passed {seconds}\n")?,
-            Happening::Went(packet) => write!(
-                text,
-                "went {}\n",
-                last_of_yiaddr(packet.bytes.as_slice())
-            )?,
-        }
+        tell(&mut text, happening)?;
     }
     Ok(text)
+}
+
+// Writes the line of what happened once.
+fn tell(text: &mut String, happening: &Happening) -> Result<(), AllocError> {
+    match happening {
+        Happening::Came(true, bytes) => write!(text, "waited for {}\n", bytes.as_slice().len()),
+        Happening::Came(false, bytes) => write!(text, "waits {}\n", bytes.as_slice().len()),
+        Happening::Said(moment) => write!(text, "said {moment}\n"),
+        Happening::Passed(seconds) => write!(text, "passed {seconds}\n"),
+        Happening::Went(packet) => {
+            let last = last_of_yiaddr(packet.bytes.as_slice());
+            write!(text, "went {last}\n")
+        }
+    }
 }
 
 // Makes three events: two DISCOVERs, and between them a datagram that cannot be read as a message.
@@ -470,12 +480,17 @@ fn record(alloc: Global) -> Result<String, AllocError> {
 #[test]
 fn what_happens_is_told_in_its_order(rt: HostRuntime) -> Result<(), Fail> {
     let served = with_server(rt.alloc(), PORTS, Served)?;
+    expect_order(&rt, rt.alloc(), &served)
+}
+
+// Checks what happened, and its record.
+fn expect_order(rt: &impl Abort, alloc: Global, served: &ServedBytes) -> Result<(), Fail> {
     assert!(rt; served.end == Ok(()));
     let wanted = "said 0\npassed 0\n\
         waited for 244\nsaid 100\nwaits 1\nsaid 110\nsaid 110\npassed 110\nwent 10\n\
         waited for 244\nsaid 300\nsaid 300\npassed 300\nwent 11\n";
-    assert!(rt; told(rt.alloc(), served.log.as_slice())?.as_str() == wanted);
-    assert!(rt; served.journal.as_slice() == record(rt.alloc())?.as_bytes());
+    assert!(rt; told(alloc, served.log.as_slice())?.as_str() == wanted);
+    assert!(rt; served.journal.as_slice() == record(alloc)?.as_bytes());
     Ok(())
 }
 
@@ -499,10 +514,15 @@ impl<'a> Work for Replays<'a> {
 #[test]
 fn what_is_recorded_replays_to_what_was_written(rt: HostRuntime) -> Result<(), Fail> {
     let served = with_server(rt.alloc(), PORTS, Served)?;
+    expect_replay(&rt, rt.alloc(), &served)
+}
+
+// Checks that the record replays to the lines, which begin with a reply.
+fn expect_replay(rt: &impl Abort, alloc: Global, served: &ServedBytes) -> Result<(), Fail> {
     let lines = served.lines.as_slice();
     assert!(rt; lines.starts_with(b"100 reply hardware 192.0.2.10:68 02"));
     let journal = served.journal.as_slice();
-    assert!(rt; with_server(rt.alloc(), PORTS, Replays { journal, lines })?);
+    assert!(rt; with_server(alloc, PORTS, Replays { journal, lines })?);
     Ok(())
 }
 

@@ -10,8 +10,35 @@ use test_tables::Fused;
 /// The bytes 236 to 239 of a datagram.
 pub(crate) const COOKIE: [u8; 4] = [99, 130, 83, 99];
 
-/// Work with a server. Code that holds a server is proved against all parts of its table, so only
-/// `with_server_of` does, and everything else borrows one.
+/// Returns what a look at a value finds, if it was made. Code that holds a configuration or a server
+/// is proved against all their parts; this and `act_on` are proved for any value, and what they call
+/// borrows it.
+pub(crate) fn look_at<V: Drop, E: Drop, T: Drop, F: FnOnce(&V) -> T>(
+    made: Result<V, E>,
+    look: F,
+) -> Result<T, E>
+    requires { F.IsAlwaysCallable look }
+{
+    match made {
+        Ok(value) => Ok(look(&value)),
+        Err(fault) => Err(fault),
+    }
+}
+
+// Returns what a use of a value gives, if the value was made.
+fn act_on<V: Drop, T: Drop, F: FnOnce(&mut V) -> Result<T, Fail>>(
+    made: Result<V, AllocError>,
+    action: F,
+) -> Result<T, Fail>
+    requires { F.IsAlwaysCallable action }
+{
+    match made {
+        Ok(mut value) => action(&mut value),
+        Err(fault) => Err(fault.into()),
+    }
+}
+
+/// Work with a server, which it borrows.
 pub(crate) trait Work: Drop {
     /// What it finds.
     type Found: Drop;
@@ -36,10 +63,8 @@ pub(crate) fn with_server_of<W: Work>(
     calls: u64,
     work: W,
 ) -> Result<W::Found, Fail> {
-    match server_of(alloc, config, ports, calls) {
-        Ok(mut server) => work.done(alloc, &mut server),
-        Err(fault) => Err(fault.into()),
-    }
+    let made = server_of(alloc, config, ports, calls);
+    act_on(made, |server| work.done(alloc, server))
 }
 
 /// Makes a server with a configuration, over an empty store on which `calls` calls succeed.
@@ -64,8 +89,7 @@ fn opened(
 ) -> Result<Server<Fused>, AllocError>
     requires { store.fault ≡ None }
 {
-    match Server::open(alloc, config, store, ports) {
-        Ok(server) => Ok(server),
-        Err(_) => Err(AllocError),
-    }
+    Server::open(alloc, config, store, ports)
+        .ok()
+        .ok_or(AllocError)
 }
