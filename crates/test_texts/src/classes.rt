@@ -81,7 +81,7 @@ fn held_of(alloc: Global, classes: &Classes, message: &Message<'_>) -> Result<He
 fn definitions_stand_at_their_indexes(rt: HostRuntime) -> Result<(), Fail> {
     match classes(rt.alloc()) {
         Ok(classes) => expect_four(&classes),
-        Err(fault) => expect(fault == Fault::Memory, "want of memory"),
+        Err(fault) => expect(fault == Fault::Memory, "out of memory"),
     }
 }
 

@@ -53,7 +53,7 @@ fn expect_again(alloc: Global, bytes: &[u8]) -> Result<(), Fail> {
         };
         let first = outcome(alloc, text, bytes);
         let is_reported = first == Ok(want) || first == Err(Fault::Memory);
-        expect(is_reported, "an outcome, or want of memory")?;
+        expect(is_reported, "an outcome, or out of memory")?;
         let again = outcome(alloc, text, bytes)?;
         expect(again == want, "the same call repeated")?;
     }

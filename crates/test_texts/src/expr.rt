@@ -111,11 +111,11 @@ fn addresses_are_four_small_numbers(rt: HostRuntime) {
 const TEXT: &[u8] =
     b"not (member('a') or ifelse(1 == 2,lcase('b') + 0x123,substring(ucase(1.2.3.4),0,all)) == '') and uint32totext(3) == hexstring('c',':')";
 
-// Checks that a text has this fault, or want of memory at the first of two calls.
+// Checks that a text has this fault, or out of memory at the first of two calls.
 fn expect_fault(alloc: Global, text: &[u8], want: Option<ExprFault>) -> Result<(), Fail> {
     let first = fault_of(alloc, text);
     let is_reported = first == want || first == Some(ExprFault::Memory);
-    expect(is_reported, "a fault, or want of memory")?;
+    expect(is_reported, "a fault, or out of memory")?;
     expect(fault_of(alloc, text) == want, "the same call repeated")
 }
 

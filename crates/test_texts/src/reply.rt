@@ -92,7 +92,7 @@ fn want_of_memory_is_answered_as_such(rt: HostRuntime) -> Result<(), Fail> {
 fn expect_again(alloc: Global, reply: &Reply) -> Result<(), Fail> {
     let first = measure(alloc, reply, 548);
     let is_reported = matches!(first, Ok(346) | Err(WriteFault::Memory));
-    expect(is_reported, "346 bytes, or want of memory")?;
+    expect(is_reported, "346 bytes, or out of memory")?;
     expect(measure(alloc, reply, 548)? == 346, "346 bytes")
 }
 
