@@ -151,6 +151,21 @@ const PORTS: Ports = Ports {
     client: 68,
 };
 
+/// Returns what an action on a value finds, if the value was made. Code that holds a server or leases
+/// is proved against all parts of their tables; this is proved for any value, and what it calls
+/// borrows it.
+pub(crate) fn act_on<V: Drop, E, T, F: FnOnce(&mut V) -> T>(
+    made: Result<V, E>,
+    action: F,
+) -> Result<T, E>
+    requires { F.IsAlwaysCallable action }
+{
+    match made {
+        Ok(mut value) => Ok(action(&mut value)),
+        Err(fault) => Err(fault),
+    }
+}
+
 /// Opens a server with the built-in configuration, over an empty store on which `calls` calls
 /// succeed.
 pub(crate) fn opened(alloc: Global, calls: u64) -> Result<Server<Fused>, Fault> {
@@ -165,10 +180,12 @@ pub(crate) fn opened(alloc: Global, calls: u64) -> Result<Server<Fused>, Fault> 
 fn opened_over(alloc: Global, config: Config, store: Fused) -> Result<Server<Fused>, Fault>
     requires { store.fault ≡ None }
 {
-    match Server::open(alloc, config, store, PORTS) {
-        Ok(server) => Ok(server),
-        Err((fault, _, _)) => Err(cause_of(fault)),
-    }
+    Server::open(alloc, config, store, PORTS).map_err(cause_of_refusal)
+}
+
+// Returns why a server is not opened, and drops what it returns.
+fn cause_of_refusal(refusal: (ServeFault, Config, Fused)) -> Fault {
+    cause_of(refusal.0)
 }
 
 // Returns why a server returns nothing: out of memory for the event or within its store, or another
@@ -235,10 +252,7 @@ fn sent(alloc: Global, server: &mut Server<Fused>, message: Sent) -> Result<Got,
 
 // Returns how many messages of a day had the expected result, up to the first that did not.
 fn as_worked_out(alloc: Global, day: &[(Sent, Got)]) -> Result<usize, Fault> {
-    match opened(alloc, 1000) {
-        Ok(mut server) => right_in(alloc, &mut server, day),
-        Err(fault) => Err(fault),
-    }
+    act_on(opened(alloc, 1000), |server| right_in(alloc, server, day))?
 }
 
 // Does the same over a server.
@@ -295,10 +309,7 @@ fn stops_so(alloc: Global, server: &mut Server<Fused>) -> Result<bool, Fault> {
 
 // Does the same with a server that is opened.
 fn stops(alloc: Global) -> Result<bool, Fault> {
-    match opened(alloc, 2) {
-        Ok(mut server) => stops_so(alloc, &mut server),
-        Err(fault) => Err(fault),
-    }
+    act_on(opened(alloc, 2), |server| stops_so(alloc, server))?
 }
 
 #[test]

@@ -1,11 +1,13 @@
 // The decision for a message, from only its configuration and table.
 
+use crate::days::act_on;
 use crate::fields::{DIRECT, bytes_of};
 use kd_config::Config;
 use kd_lease::{Decision, Plan, PlanKind, decide};
 use kd_options::Message;
 use kd_rows::{Row, Rows, State};
 use std::alloc::Global;
+use std::process::Abort;
 use std::test::Fail;
 use test_tables::offer_bytes;
 
@@ -15,18 +17,13 @@ const FIRST: u32 = 0xc000_020a;
 // Returns the decision for the DISCOVER of the client 0a0000000001 at time 100, over an empty table
 // of the built-in configuration.
 fn first_decision(alloc: Global) -> Result<Decision, Fail> {
-    match Config::builtin(alloc) {
-        Ok(config) => decided_by(alloc, &config),
-        Err(fault) => Err(fault.into()),
-    }
+    act_on(Config::builtin(alloc), |config| decided_by(alloc, config))?
 }
 
 // Does the same with a configuration.
 fn decided_by(alloc: Global, config: &Config) -> Result<Decision, Fail> {
-    match Rows::new(Vec::new(alloc)) {
-        Ok(rows) => decided_over(alloc, config, &rows),
-        Err(fault) => Err(fault.into()),
-    }
+    let made = Rows::new(Vec::new(alloc));
+    act_on(made, |rows| decided_over(alloc, config, rows))?
 }
 
 // Does the same over a table.
@@ -61,10 +58,15 @@ fn a_discover_over_an_empty_table_sets_a_row_and_is_offered_its_address(
     rt: HostRuntime,
 ) -> Result<(), Fail> {
     let decision = first_decision(rt.alloc())?;
+    expect_offer(&rt, rt.alloc(), &decision)
+}
+
+// Checks that a decision sets the row and is that offer.
+fn expect_offer(rt: &impl Abort, alloc: Global, decision: &Decision) -> Result<(), Fail> {
     match (&decision.row, &decision.answer) {
         (Some(row), Ok(plan)) => {
             assert!(rt; is_held(row));
-            assert!(rt; is_offered(rt.alloc(), plan)?);
+            assert!(rt; is_offered(alloc, plan)?);
             Ok(())
         }
         _ => Err("no row or no plan".into()),

@@ -1,4 +1,4 @@
-use crate::days::opened;
+use crate::days::{act_on, opened};
 use crate::fields::{DIRECT, Fields, bytes_of};
 use kd_event::{Destination, Mode, Ports, Reason, Response};
 use kd_lease::{Plan, PlanKind, destination};
@@ -99,10 +99,7 @@ const RELAYS: [(u32, Result<Mode, Reason>); 3] = [
 
 // Returns how a DISCOVER through this relay is answered.
 fn answered(alloc: Global, giaddr: u32) -> Result<Result<Mode, Reason>, Fail> {
-    match opened(alloc, 10) {
-        Ok(mut server) => answer_of(alloc, &mut server, giaddr),
-        Err(fault) => Err(fault.into()),
-    }
+    act_on(opened(alloc, 10), |server| answer_of(alloc, server, giaddr))?
 }
 
 // Does the same with a server.

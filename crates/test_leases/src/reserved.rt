@@ -1,6 +1,6 @@
 // What clients are offered over a table that withholds the reserved addresses.
 
-use crate::days::Fault;
+use crate::days::{Fault, act_on};
 use crate::fields::{DIRECT, Fields, bytes_of};
 use crate::scenes::{BEHIND, Layout, MOMENT, OWNER, POOL, Place, Scene, config_of, leases_of};
 use kd_config::Config;
@@ -208,6 +208,19 @@ fn offered_again(alloc: Global, leases: &mut Leases, client: u32) -> Result<Opti
     }
 }
 
+// Makes the leases of a scene over its configuration, again if there was no memory for them.
+fn leases_over(alloc: Global, scene: &Scene, config: Config) -> Result<Leases, Fault> {
+    match leases_of(alloc, scene, config) {
+        Err((Fault::Memory, config)) => leases_of(alloc, scene, config).map_err(cause_of),
+        other => other.map_err(cause_of),
+    }
+}
+
+// Returns why there are no leases, and drops their configuration.
+fn cause_of(refusal: (Fault, Config)) -> Fault {
+    refusal.0
+}
+
 // Returns how many clients were offered the expected address, up to the first that was not.
 fn right_in(
     alloc: Global,
@@ -222,24 +235,6 @@ fn right_in(
     Ok(offers.len())
 }
 
-// Does the same over the leases of a configuration, which are made again if there was no memory for
-// them.
-fn right_over(
-    alloc: Global,
-    scene: &Scene,
-    config: Config,
-    offers: &[(u32, Option<u32>)],
-) -> Result<usize, Fault> {
-    match leases_of(alloc, scene, config) {
-        Ok(mut leases) => right_in(alloc, &mut leases, offers),
-        Err((Fault::Memory, config)) => match leases_of(alloc, scene, config) {
-            Ok(mut leases) => right_in(alloc, &mut leases, offers),
-            Err((fault, _)) => Err(fault),
-        },
-        Err((fault, _)) => Err(fault),
-    }
-}
-
 // Does the same in a scene.
 fn as_worked_out(
     alloc: Global,
@@ -247,7 +242,9 @@ fn as_worked_out(
     offers: &[(u32, Option<u32>)],
 ) -> Result<usize, Fault> {
     match config_of(alloc, scene) {
-        Ok(config) => right_over(alloc, scene, config, offers),
+        Ok(config) => act_on(leases_over(alloc, scene, config), |leases| {
+            right_in(alloc, leases, offers)
+        })?,
         Err(fault) => Err(fault),
     }
 }

@@ -1,7 +1,7 @@
 // Leases with many rows, with a configuration of many reservations.
 
 use crate::days::Fault;
-use kd_config::Config;
+use kd_config::{Config, ConfigFault};
 use kd_lease::Leases;
 use kd_rows::{Row, Rows, State};
 use kd_wire::Bytes;
@@ -61,10 +61,15 @@ pub(crate) type Scene = (u32, Layout, u32, Place);
 /// Returns the configuration of a scene.
 pub(crate) fn config_of(alloc: Global, scene: &Scene) -> Result<Config, Fault> {
     let text = text_of(alloc, scene)?;
-    match Config::read(alloc, text.as_bytes(), &[]) {
-        Ok(config) => Ok(config),
-        Err(fault) if fault.number() == 91 => Err(Fault::Memory),
-        Err(_) => Err(Fault::Other),
+    Config::read(alloc, text.as_bytes(), &[]).map_err(cause_of)
+}
+
+// Returns why a configuration is not read.
+fn cause_of(fault: ConfigFault) -> Fault {
+    if fault.number() == 91 {
+        Fault::Memory
+    } else {
+        Fault::Other
     }
 }
 
