@@ -30,8 +30,18 @@ fn decided_by(alloc: Global, config: &Config) -> Result<Decision, Fail> {
 fn decided_over(alloc: Global, config: &Config, rows: &Rows) -> Result<Decision, Fail> {
     let bytes = bytes_of(alloc, &DIRECT)?;
     let message = Message::read(alloc, bytes.as_slice())?;
-    let names = config.classes().held(alloc, &message)?;
-    Ok(decide(alloc, config, rows, &message, &names, 100)?)
+    decided_for(alloc, config, rows, &message)
+}
+
+// Does the same for a message.
+fn decided_for(
+    alloc: Global,
+    config: &Config,
+    rows: &Rows,
+    message: &Message<'_>,
+) -> Result<Decision, Fail> {
+    let names = config.classes().held(alloc, message)?;
+    Ok(decide(alloc, config, rows, message, &names, 100)?)
 }
 
 // Reports whether the row holds the first address for the client, for a minute.
