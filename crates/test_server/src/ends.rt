@@ -112,7 +112,7 @@ fn rows_of(alloc: Global, files: &[TokenFile]) -> Result<Vec<String>, Fail> {
 }
 
 // The names of files, and their texts.
-const NAMED: [(&str, &str); 8] = [
+const NAMED: &[(&str, &str)] = &[
     ("b.k4tk", "two"),
     ("a.k4tk", "one"),
     ("empty.k4tk", ""),
@@ -124,7 +124,7 @@ const NAMED: [(&str, &str); 8] = [
 ];
 
 // The targets of links, and their names.
-const LINKS: [(&str, &str); 3] = [
+const LINKS: &[(&str, &str)] = &[
     ("plain", "link.k4tk"),
     ("folder.k4tk", "to-folder.k4tk"),
     ("nothing", "to-nothing.k4tk"),

@@ -68,7 +68,7 @@ fn ends_as(alloc: Global, input: &str, ends: Ends, want: &str, output: &str) -> 
 }
 
 // An input and its ends, the result, and what is written.
-const ENDED: [(&str, Ends, &str, &str); 7] = [
+const ENDED: &[(&str, Ends, &str, &str)] = &[
     (
         "5 \n6 00",
         (1, false, 1000),
@@ -102,7 +102,7 @@ const ENDED: [(&str, Ends, &str, &str); 7] = [
 #[test]
 fn a_replay_ends_as_its_ends_do(rt: HostRuntime) -> Result<(), Fail> {
     for (input, ends, want, output) in ENDED {
-        assert!(rt; ends_as(rt.alloc(), input, ends, want, output)?, "{input}");
+        assert!(rt; ends_as(rt.alloc(), input, *ends, want, output)?, "{input}");
     }
     Ok(())
 }
