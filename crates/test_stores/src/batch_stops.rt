@@ -3,20 +3,19 @@
 // answered, and the day goes on.
 use crate::days::{Lease, RENEWED, Step};
 use crate::device::{
-    Device, LOSSES, Left, Loss, STOPPED, Work, files, files_left, left_of, over_files,
+    LOSSES, Left, Loss, STOPPED, Stopped, answered, files, files_left, found_over, left_after,
 };
-use crate::serving::{Refusal, arrived, is_answer, let_go, opened, stands_at};
-use kd_config::Config;
+use crate::serving::{Refusal, Serves, Serving, arrived, is_answer, stands_at};
 use kd_event::Handled;
 use kd_keeps::Keeps;
-use kd_replay::ServeFault;
+use kd_replay::{Arrived, ServeFault};
 use kd_server::Server;
-use sqlite::{Alter, Connection, Files, Options};
+use sqlite::Options;
 use std::alloc::{AllocError, Global};
 use std::test::Fail;
 
 // Where the events ended.
-#[derive(Clone, Copy, PartialEq, Eq)]
+#[derive(Clone, Copy)]
 enum End {
     // No server was opened.
     Unopened,
@@ -49,23 +48,54 @@ fn is_answered<S: Keeps>(
     steps: &[Step],
 ) -> Result<bool, Fail> {
     let events = arrived(alloc, steps)?;
-    let (list, fault) = server.handle_all(events.as_slice());
-    if fault.is_some() {
-        let (more, again) = server.handle_all(events.as_slice());
-        let is_stop = fault == Some(ServeFault::Store(STOPPED))
-            && list.is_empty()
-            && more.is_empty()
-            && again == Some(ServeFault::Failed);
-        return if is_stop {
-            Ok(false)
-        } else {
-            Err("a stop is not a fault of the store without an answer, and then Failed".into())
-        };
+    are_answered(alloc, server, steps, events.as_slice())
+}
+
+// Does the same with the events of the steps.
+fn are_answered<S: Keeps>(
+    alloc: Global,
+    server: &mut Server<S>,
+    steps: &[Step],
+    events: &[Arrived],
+) -> Result<bool, Fail> {
+    let (list, fault) = server.handle_all(events);
+    match fault {
+        None => expect_answers(alloc, server, steps, list.as_slice()),
+        Some(fault) => expect_stop(server, events, list.as_slice(), fault),
     }
-    if !are_answers(alloc, steps, list.as_slice())? || !stands_at(server, table_after(steps))? {
+}
+
+// Fails unless the steps have the expected answers and the server has the table after them.
+fn expect_answers<S: Keeps>(
+    alloc: Global,
+    server: &Server<S>,
+    steps: &[Step],
+    list: &[Handled],
+) -> Result<bool, Fail> {
+    if !are_answers(alloc, steps, list)? || !stands_at(server, table_after(steps))? {
         return Err("an answer is not the one that was worked out".into());
     }
     Ok(true)
+}
+
+// Fails unless nothing is answered, the fault is that of a store whose device stops, and events
+// that are sent again are Failed.
+fn expect_stop<S: Keeps>(
+    server: &mut Server<S>,
+    events: &[Arrived],
+    list: &[Handled],
+    fault: ServeFault,
+) -> Result<bool, Fail> {
+    let (more, again) = server.handle_all(events);
+    let is_stop = fault == ServeFault::Store(STOPPED)
+        && list.is_empty()
+        && more.is_empty()
+        && again == Some(ServeFault::Failed);
+    if is_stop {
+        Ok(false)
+    } else {
+        Err("a stop is not a fault of the store without an answer, and then Failed".into())
+    }
 }
 
 // Reports whether the results of the steps are the expected ones.
@@ -90,6 +120,14 @@ fn table_after(steps: &[Step]) -> &'static [Lease] {
     }
 }
 
+// The work of a server with the configuration of these events.
+fn served<W>(work: W) -> Serving<W> {
+    Serving {
+        config: RENEWED.0,
+        work,
+    }
+}
+
 // Sends the batch and then the event after it, up to the first that stops.
 fn sent<S: Keeps>(alloc: Global, server: &mut Server<S>) -> Result<End, Fail> {
     let (batch, after) = steps();
@@ -106,127 +144,128 @@ fn sent<S: Keeps>(alloc: Global, server: &mut Server<S>) -> Result<End, Fail> {
 #[derive(Drop)]
 struct Sends;
 
-impl Work for Sends {
+impl Serves for Sends {
     type Found = End;
 
-    fn done<S: Alter + Drop>(self, alloc: Global, conn: Connection<S>) -> (Result<End, Fail>, S) {
-        match Config::read(alloc, RENEWED.0, &[]) {
-            Ok(config) => sent_with(alloc, config, conn),
-            Err(fault) => (Err(fault.into()), conn.into_store()),
-        }
+    fn served<K: Keeps>(self, alloc: Global, server: &mut Server<K>) -> Result<End, Fail> {
+        sent(alloc, server)
+    }
+
+    fn refused(self, refusal: &Refusal) -> Result<End, Fail> {
+        refusal.expect_stop()?;
+        Ok(End::Unopened)
+    }
+
+    fn unopened(self) -> Result<End, Fail> {
+        Ok(End::Unopened)
     }
 }
 
-// Does the same with a configuration.
-fn sent_with<S: Alter + Drop>(
+// Reports whether the server has the table before the batch, the one after it, and the last one.
+fn tables_of<S: Keeps>(server: &Server<S>) -> Result<(bool, bool, bool), ServeFault> {
+    let (batch, after) = steps();
+    let is_before = stands_at(server, &[])?;
+    let is_after = stands_at(server, table_after(batch))?;
+    let is_last = stands_at(server, table_after(after))?;
+    Ok((is_before, is_after, is_last))
+}
+
+// Reports whether the end leaves one of these tables.
+fn leaves(end: End, tables: (bool, bool, bool)) -> bool {
+    let (is_before, is_after, is_last) = tables;
+    match end {
+        End::Unopened => is_before,
+        End::Stopped => is_before || is_after,
+        End::Batched => is_after || is_last,
+        End::Whole => is_last,
+    }
+}
+
+// Sends steps as one batch, and fails with the text unless all have the expected answers.
+fn expect_answered<S: Keeps>(
     alloc: Global,
-    config: Config,
-    conn: Connection<S>,
-) -> (Result<End, Fail>, S) {
-    match opened(alloc, config, conn) {
-        Ok(mut server) => {
-            let end = sent(alloc, &mut server);
-            (end, let_go(server))
-        }
-        Err((refusal, left)) => (unopened(&refusal), left),
-    }
-}
-
-// If the opening stops, the events end there.
-fn unopened(refusal: &Refusal) -> Result<End, Fail> {
-    refusal.expect_stop()?;
-    Ok(End::Unopened)
-}
-
-// Does the same over files.
-fn sent_to(alloc: Global, files: Files<Device>) -> Result<(End, Files<Device>), Fail> {
-    let (found, files) = over_files(alloc, files, OPTIONS, Sends);
-    match found {
-        Some(Ok(end)) => Ok((end, files)),
-        Some(Err(fault)) => Err(fault),
-        None => Ok((End::Unopened, files)),
+    server: &mut Server<S>,
+    steps: &[Step],
+    text: &str,
+) -> Result<(), Fail> {
+    if is_answered(alloc, server, steps)? {
+        Ok(())
+    } else {
+        Err(text.into())
     }
 }
 
 // Checks that the server has the table that the end leaves, and that the day goes on from there to
 // its last table.
 fn goes_on_at<S: Keeps>(alloc: Global, server: &mut Server<S>, end: End) -> Result<(), Fail> {
-    let (batch, after) = steps();
-    let is_before = stands_at(server, &[])?;
-    let is_after = stands_at(server, table_after(batch))?;
-    let is_last = stands_at(server, table_after(after))?;
-    let is_left = match end {
-        End::Unopened => is_before,
-        End::Stopped => is_before || is_after,
-        End::Batched => is_after || is_last,
-        End::Whole => is_last,
-    };
-    if !is_left {
+    let tables = tables_of(server)?;
+    if !leaves(end, tables) {
         return Err("a stop left neither the table before nor the one after".into());
     }
-    if is_before && !is_answered(alloc, server, batch)? {
-        return Err("the batch stops with no stop of its device".into());
+    let (batch, after) = steps();
+    let (is_before, _, is_last) = tables;
+    if is_before {
+        expect_answered(
+            alloc,
+            server,
+            batch,
+            "the batch stops with no stop of its device",
+        )?;
     }
-    if !is_last && !is_answered(alloc, server, after)? {
-        return Err("the day stops with no stop of its device".into());
+    if !is_last {
+        expect_answered(
+            alloc,
+            server,
+            after,
+            "the day stops with no stop of its device",
+        )?;
     }
     Ok(())
 }
+
+// The text of a failure to open what a stop left.
+const NOT_OPENED: &str = "what a stop left is not opened";
 
 // Checks that this holds.
 #[derive(Drop)]
 struct GoesOn(End);
 
-impl Work for GoesOn {
+impl Serves for GoesOn {
     type Found = ();
 
-    fn done<S: Alter + Drop>(self, alloc: Global, conn: Connection<S>) -> (Result<(), Fail>, S) {
-        match Config::read(alloc, RENEWED.0, &[]) {
-            Ok(config) => goes_on_with(alloc, config, conn, self.0),
-            Err(fault) => (Err(fault.into()), conn.into_store()),
-        }
+    fn served<K: Keeps>(self, alloc: Global, server: &mut Server<K>) -> Result<(), Fail> {
+        goes_on_at(alloc, server, self.0)
     }
-}
 
-// Does the same with a configuration.
-fn goes_on_with<S: Alter + Drop>(
-    alloc: Global,
-    config: Config,
-    conn: Connection<S>,
-    end: End,
-) -> (Result<(), Fail>, S) {
-    match opened(alloc, config, conn) {
-        Ok(mut server) => {
-            let went_on = goes_on_at(alloc, &mut server, end);
-            (went_on, let_go(server))
-        }
-        Err((_, left)) => (Err("what a stop left is not opened".into()), left),
+    fn refused(self, _: &Refusal) -> Result<(), Fail> {
+        Err(NOT_OPENED.into())
+    }
+
+    fn unopened(self) -> Result<(), Fail> {
+        Err(NOT_OPENED.into())
     }
 }
 
 // Does the same with what a loss leaves of the files.
 fn goes_on(alloc: Global, left: &Left, loss: Loss, end: End) -> Result<(), Fail> {
     let files = files_left(alloc, left, loss, (u64::MAX, u64::MAX))?;
-    let (found, _files) = over_files(alloc, files, OPTIONS, GoesOn(end));
-    match found {
-        Some(went_on) => went_on,
-        None => Err("what a stop left is not opened".into()),
-    }
+    found_over(alloc, files, OPTIONS, served(GoesOn(end)))
 }
 
-// The file whose device stops.
-#[derive(Clone, Copy)]
-enum Stopped {
-    Log,
-    Database,
+// Does the same with what each loss leaves, and returns the end.
+fn goes_on_from_all(alloc: Global, left: &Left, end: End) -> Result<End, Fail> {
+    for loss in &LOSSES {
+        goes_on(alloc, left, *loss, end)?;
+    }
+    Ok(end)
 }
 
-// Returns how many calls of the log and of the database succeed.
-fn answered(stopped: Stopped, calls: u64) -> (u64, u64) {
-    match stopped {
-        Stopped::Log => (calls, u64::MAX),
-        Stopped::Database => (u64::MAX, calls),
-    }
+// Stops a file after a number of calls, does the same with what is left, and returns the end.
+fn stop_at(alloc: Global, stopped: Stopped, calls: u64) -> Result<End, Fail> {
+    let files = files(alloc, answered(stopped, calls));
+    let (end, left) = left_after(alloc, files, OPTIONS, served(Sends));
+    let end = end?;
+    goes_on_from_all(alloc, &left?, end)
 }
 
 // Stops a file at each call, from the first until all succeed. Returns at how many calls the batch
@@ -234,12 +273,7 @@ fn answered(stopped: Stopped, calls: u64) -> (u64, u64) {
 fn stops(alloc: Global, stopped: Stopped) -> Result<(u64, u64), Fail> {
     let (mut batch, mut after) = (0u64, 0u64);
     for calls in 0..1000u64 {
-        let (end, files) = sent_to(alloc, files(alloc, answered(stopped, calls)))?;
-        let left = left_of(alloc, files)?;
-        for loss in LOSSES {
-            goes_on(alloc, &left, loss, end)?;
-        }
-        match end {
+        match stop_at(alloc, stopped, calls)? {
             End::Unopened => {}
             End::Stopped => batch = batch.saturating_add(1),
             End::Batched => after = after.saturating_add(1),

@@ -9,6 +9,21 @@ use std::test::Fail;
 /// A file in memory on which a number of calls succeed and each later one fails.
 pub(crate) type Device = Fuse<Memory>;
 
+/// The file whose device stops.
+#[derive(Clone, Copy)]
+pub(crate) enum Stopped {
+    Log,
+    Database,
+}
+
+/// Returns how many calls of the log and of the database succeed, if one of them stops after some.
+pub(crate) fn answered(stopped: Stopped, calls: u64) -> (u64, u64) {
+    match stopped {
+        Stopped::Log => (calls, u64::MAX),
+        Stopped::Database => (u64::MAX, calls),
+    }
+}
+
 /// Makes new files: a log and a database, on each of which a number of calls succeed.
 pub(crate) fn files(alloc: Global, calls: (u64, u64)) -> Files<Device> {
     Files {
@@ -18,11 +33,11 @@ pub(crate) fn files(alloc: Global, calls: (u64, u64)) -> Files<Device> {
 }
 
 // Connects to the files, or returns why that failed, and the files.
-fn connected(
+fn connected<D: Disk + Drop>(
     alloc: Global,
-    files: Files<Device>,
+    files: Files<D>,
     options: Options,
-) -> Result<Connection<FileStore<Device>>, (Error, Files<Device>)> {
+) -> Result<Connection<FileStore<D>>, (Error, Files<D>)> {
     if !files.may_be_used() {
         return Err((Error::SqliteFailure(ErrorCode::CannotOpen), files));
     }
@@ -43,34 +58,58 @@ pub(crate) trait Work: Drop {
         alloc: Global,
         conn: Connection<S>,
     ) -> (Result<Self::Found, Fail>, S);
+
+    /// What it finds if there is no connection, because the device of the files stops.
+    fn unopened(self) -> Result<Self::Found, Fail>;
 }
 
-/// Does work over files. Returns what it found, or `None` if the files cannot be opened because
-/// their device stops; and the files. Code that moves a connection to files is proved against all
-/// parts of it, which takes the prover a minute; so only this does, and everything else works over
-/// any store.
-pub(crate) fn over_files<W: Work>(
+/// Does work over files, and returns what it found, and the files. Code that moves a connection to
+/// files is proved against all parts of it, which takes the prover a minute; so only this does, and
+/// everything else works over any store.
+pub(crate) fn over_files<D: Disk + Drop, W: Work>(
+    alloc: Global,
+    files: Files<D>,
+    options: Options,
+    work: W,
+) -> (Result<W::Found, Fail>, Files<D>) {
+    match connected(alloc, files, options) {
+        Ok(conn) => {
+            let (found, left) = work.done(alloc, conn);
+            (found, left.close())
+        }
+        Err((error, files)) => (refused(error, work), files),
+    }
+}
+
+// Returns what work finds over files that cannot be opened.
+fn refused<W: Work>(error: Error, work: W) -> Result<W::Found, Fail> {
+    if error == UNOPENED {
+        work.unopened()
+    } else {
+        Err("files that stop are not opened for another cause".into())
+    }
+}
+
+/// Does work over files, and returns only what it found.
+pub(crate) fn found_over<W: Work>(
     alloc: Global,
     files: Files<Device>,
     options: Options,
     work: W,
-) -> (Option<Result<W::Found, Fail>>, Files<Device>) {
-    match connected(alloc, files, options) {
-        Ok(conn) => {
-            let (found, left) = work.done(alloc, conn);
-            (Some(found), left.close())
-        }
-        Err((error, files)) => (unopened(error), files),
-    }
+) -> Result<W::Found, Fail> {
+    let (found, _files) = over_files(alloc, files, options, work);
+    found
 }
 
-// Nothing is done over files that cannot be opened.
-fn unopened<T>(error: Error) -> Option<Result<T, Fail>> {
-    if error == UNOPENED {
-        None
-    } else {
-        Some(Err("files that stop are not opened for another cause".into()))
-    }
+/// Does work over files, and returns what it found, and what the files then held.
+pub(crate) fn left_after<W: Work>(
+    alloc: Global,
+    files: Files<Device>,
+    options: Options,
+    work: W,
+) -> (Result<W::Found, Fail>, Result<Left, AllocError>) {
+    let (found, mut files) = over_files(alloc, files, options, work);
+    (found, left_of(alloc, &mut files))
 }
 
 /// Makes the store over a connection, or returns why that failed, and what is below it.
@@ -151,27 +190,31 @@ struct Image {
 }
 
 /// What two files held when their device stopped.
-#[derive(Drop)]
 pub(crate) struct Left {
     log: Image,
     db: Image,
 }
 
+// It is written out, so that a function that has one does not prove again how its parts are dropped.
+impl Drop for Left {
+    fn drop(self) {
+        let Left { log: _, db: _ } = self;
+    }
+}
+
 // Returns what a file held.
-fn image_of(alloc: Global, mut file: Device) -> Result<Image, AllocError> {
+fn image_of(alloc: Global, file: &mut Device) -> Result<Image, AllocError> {
     let written = Vec::from_slice(alloc, file.inner().bytes())?;
     file.crash();
     let synced = Vec::from_slice(alloc, file.inner().bytes())?;
     Ok(Image { written, synced })
 }
 
-/// Returns what the files held.
-pub(crate) fn left_of(alloc: Global, files: Files<Device>) -> Result<Left, AllocError> {
-    let Files { log, db } = files;
-    Ok(Left {
-        log: image_of(alloc, log)?,
-        db: image_of(alloc, db)?,
-    })
+// Returns what the files held. They are then as after a crash.
+fn left_of(alloc: Global, files: &mut Files<Device>) -> Result<Left, AllocError> {
+    let log = image_of(alloc, &mut files.log)?;
+    let db = image_of(alloc, &mut files.db)?;
+    Ok(Left { log, db })
 }
 
 /// Returns the byte at a position, and 0 after the end.

@@ -6,7 +6,7 @@ use kd_keeps::{Cause, Keeps, StoreFault};
 use kd_rows::{Row, Rows, State};
 use kd_store::Store;
 use sqlite::{Connection, Error, MemStore};
-use std::alloc::Global;
+use std::alloc::{AllocError, Global};
 use std::test::Fail;
 
 // Opens the store over a connection.
@@ -20,14 +20,20 @@ fn opened(alloc: Global, conn: Connection<MemStore>) -> Result<Store<MemStore>, 
     }
 }
 
+// Sets a lease.
+fn put(alloc: Global, store: &mut Store<MemStore>, lease: Lease) -> Result<(), Fail> {
+    let row = row(alloc, lease)?;
+    if store.failed() || !row.is_in_range() {
+        return Err("the store has failed, or the row is out of range".into());
+    }
+    store.put(&row)?;
+    Ok(())
+}
+
 // Sets the leases, one after the other.
 fn put_all(alloc: Global, store: &mut Store<MemStore>, leases: &[Lease]) -> Result<(), Fail> {
     for lease in leases {
-        let row = row(alloc, *lease)?;
-        if store.failed() || !row.is_in_range() {
-            return Err("the store has failed, or the row is out of range".into());
-        }
-        store.put(&row)?;
+        put(alloc, store, *lease)?;
     }
     Ok(())
 }
@@ -69,16 +75,28 @@ fn keeps_what_is_put(alloc: Global, store: &mut Store<MemStore>) -> Result<bool,
     holds(store, &KEPT)
 }
 
+// Reports whether the store over a connection holds exactly the rows of the leases.
+fn holds_over(alloc: Global, conn: Connection<MemStore>, leases: &[Lease]) -> Result<bool, Fail> {
+    let mut store = opened(alloc, conn)?;
+    let found = holds(&mut store, leases);
+    let _conn = store.close();
+    found
+}
+
+// Does so in a new store. Returns that, and whether a second store over its connection holds what
+// was put.
+fn keeps_and_finds(alloc: Global) -> Result<(bool, bool), Fail> {
+    let mut store = opened(alloc, Connection::open_in_memory(alloc)?)?;
+    let kept = keeps_what_is_put(alloc, &mut store);
+    let conn = store.close();
+    Ok((kept?, holds_over(alloc, conn, &KEPT)?))
+}
+
 #[test]
 fn rows_are_kept_in_rising_address_and_found_again(rt: HostRuntime) -> Result<(), Fail> {
-    let mut store = opened(rt.alloc(), Connection::open_in_memory(rt.alloc())?)?;
-    let kept = keeps_what_is_put(rt.alloc(), &mut store);
-    let conn = store.close();
-    assert!(rt; kept?);
-    let mut again = opened(rt.alloc(), conn)?;
-    let found = holds(&mut again, &KEPT);
-    let _conn = again.close();
-    assert!(rt; found?);
+    let (kept, found) = keeps_and_finds(rt.alloc())?;
+    assert!(rt; kept);
+    assert!(rt; found);
     Ok(())
 }
 
@@ -91,44 +109,71 @@ fn put_together(store: &mut Store<MemStore>, rows: &[Row]) -> Result<(), Fail> {
     Ok(())
 }
 
+// Pushes the row of a lease.
+fn push_row(alloc: Global, rows: &mut Vec<Row>, lease: Lease) -> Result<(), AllocError> {
+    rows.push(row(alloc, lease)?)?;
+    Ok(())
+}
+
 // The rows of leases.
-fn rows_of(alloc: Global, leases: &[Lease]) -> Result<Vec<Row>, Fail> {
+fn rows_of(alloc: Global, leases: &[Lease]) -> Result<Vec<Row>, AllocError> {
     let mut rows = Vec::new(alloc);
     for lease in leases {
-        rows.push(row(alloc, *lease)?)?;
+        push_row(alloc, &mut rows, *lease)?;
     }
     Ok(rows)
 }
 
 // Makes `count` leases of the addresses from 1,000 on.
-fn many(alloc: Global, count: u32) -> Result<Vec<Row>, Fail> {
+fn many(alloc: Global, count: u32) -> Result<Vec<Row>, AllocError> {
     let mut rows = Vec::new(alloc);
     for number in 0..count {
         let lease: Lease = (number.saturating_add(1_000), b"m", State::Bound, 10, 20);
-        rows.push(row(alloc, lease)?)?;
+        push_row(alloc, &mut rows, lease)?;
     }
     Ok(rows)
+}
+
+// Puts the rows of the kept leases together, and then no rows.
+fn put_kept(alloc: Global, store: &mut Store<MemStore>) -> Result<(), Fail> {
+    let rows = rows_of(alloc, &KEPT)?;
+    put_together(store, rows.as_slice())?;
+    put_together(store, &[])
+}
+
+// Puts 3,000 rows together.
+fn put_many(alloc: Global, store: &mut Store<MemStore>) -> Result<(), Fail> {
+    let rows = many(alloc, 3_000)?;
+    put_together(store, rows.as_slice())
+}
+
+// Reports whether the store has not failed, and has the 3,000 rows next to those from before.
+fn holds_many(store: &mut Store<MemStore>) -> Result<bool, Fail> {
+    if store.failed() {
+        return Ok(false);
+    }
+    let rows = store.rows()?;
+    Ok(are_many(rows.as_slice()))
+}
+
+// Reports whether these are the 3,000 rows next to those from before.
+fn are_many(rows: &[Row]) -> bool {
+    rows.len() == 3_005
+        && rows[2].address == 8
+        && rows[3].address == 1_000
+        && rows[3_002].address == 3_999
+        && rows[3_003].address == 0x8000_0000
 }
 
 // Reports whether putting no rows together changes nothing, and 3,000 rows put together are all
 // there, next to those from before.
 fn keeps_many(alloc: Global, store: &mut Store<MemStore>) -> Result<bool, Fail> {
-    put_together(store, rows_of(alloc, &KEPT)?.as_slice())?;
-    put_together(store, &[])?;
+    put_kept(alloc, store)?;
     if !holds(store, &KEPT)? || store.failed() {
         return Ok(false);
     }
-    put_together(store, many(alloc, 3_000)?.as_slice())?;
-    if store.failed() {
-        return Ok(false);
-    }
-    let rows = store.rows()?;
-    let are_there = rows.len() == 3_005
-        && rows[2].address == 8
-        && rows[3].address == 1_000
-        && rows[3_002].address == 3_999
-        && rows[3_003].address == 0x8000_0000;
-    Ok(are_there)
+    put_many(alloc, store)?;
+    holds_many(store)
 }
 
 #[test]
@@ -178,9 +223,14 @@ const STRANGE: [(&str, &str); 12] = [
 // A connection to a new database with a table and a row.
 fn connected(alloc: Global, table: &str, row: &str) -> Result<Connection<MemStore>, Fail> {
     let mut conn = Connection::open_in_memory(alloc)?;
-    run(&mut conn, table)?;
-    run(&mut conn, row)?;
+    fill(&mut conn, table, row)?;
     Ok(conn)
+}
+
+// Runs the statements that make a table and a row.
+fn fill(conn: &mut Connection<MemStore>, table: &str, row: &str) -> Result<(), Error> {
+    run(conn, table)?;
+    run(conn, row)
 }
 
 // Runs one statement.
@@ -194,9 +244,11 @@ fn count(conn: &mut Connection<MemStore>) -> Result<i64, Error> {
     conn.query_row("SELECT count(*) FROM lease", &[])?.get(0)
 }
 
-// Returns the fault with which a connection is refused, and the number of rows in the table over
-// the connection that is returned.
-fn refused(alloc: Global, conn: Connection<MemStore>) -> Result<(StoreFault, i64), Fail> {
+// Returns the fault with which a connection is refused, and the connection.
+fn refused(
+    alloc: Global,
+    conn: Connection<MemStore>,
+) -> Result<(StoreFault, Connection<MemStore>), Fail> {
     if !conn.is_autocommit() {
         return Err("the connection is in a transaction".into());
     }
@@ -205,15 +257,27 @@ fn refused(alloc: Global, conn: Connection<MemStore>) -> Result<(StoreFault, i64
             let _conn = store.close();
             Err("the table is not refused".into())
         }
-        Err((fault, mut conn)) => Ok((fault, count(&mut conn)?)),
+        Err(back) => Ok(back),
     }
+}
+
+// Connects to a new database with a table and a row. Returns the fault with which the connection is
+// refused, and the number of rows in the table `lease` over the connection that is returned, or why
+// they cannot be counted.
+fn refused_with(
+    alloc: Global,
+    table: &str,
+    row: &str,
+) -> Result<(StoreFault, Result<i64, Error>), Fail> {
+    let (fault, mut conn) = refused(alloc, connected(alloc, table, row)?)?;
+    Ok((fault, count(&mut conn)))
 }
 
 #[test]
 fn a_table_that_is_not_ours_is_refused_and_stays(rt: HostRuntime) -> Result<(), Fail> {
-    for (table, row) in STRANGE {
-        let conn = connected(rt.alloc(), table, row)?;
-        assert!(rt; refused(rt.alloc(), conn)? == (StoreFault::Schema, 1));
+    for (table, row) in &STRANGE {
+        let (fault, rows) = refused_with(rt.alloc(), *table, *row)?;
+        assert!(rt; (fault, rows?) == (StoreFault::Schema, 1));
     }
     Ok(())
 }
@@ -221,24 +285,13 @@ fn a_table_that_is_not_ours_is_refused_and_stays(rt: HostRuntime) -> Result<(), 
 // The name of the table is already that of an index, so that the table cannot be created.
 #[test]
 fn a_table_that_can_not_be_made_is_a_refused_statement(rt: HostRuntime) -> Result<(), Fail> {
-    let conn = connected(
+    let (fault, _) = refused_with(
         rt.alloc(),
         "CREATE TABLE other (name INTEGER) STRICT",
         "CREATE INDEX lease ON other (name)",
     )?;
-    if !conn.is_autocommit() {
-        return Err("the connection is in a transaction".into());
-    }
-    match Store::open(rt.alloc(), conn) {
-        Ok(store) => {
-            let _conn = store.close();
-            Err("the table is not refused".into())
-        }
-        Err((fault, _)) => {
-            assert!(rt; fault == StoreFault::Sql(Cause::Refused));
-            Ok(())
-        }
-    }
+    assert!(rt; fault == StoreFault::Sql(Cause::Refused));
+    Ok(())
 }
 
 // A row in range, for the table that has none of our rules.
@@ -246,13 +299,9 @@ const IN_RANGE: &str = "INSERT INTO lease VALUES (8, x'6127', 2, 1099511627775, 
 
 #[test]
 fn a_row_in_range_is_read_from_a_table_without_rules(rt: HostRuntime) -> Result<(), Fail> {
-    let mut store = opened(rt.alloc(), connected(rt.alloc(), LOOSE, IN_RANGE)?)?;
-    let found = holds(
-        &mut store,
-        &[(8, b"a'", State::Bound, 1_099_511_627_775, 1_101_659_111_422)],
-    );
-    let _conn = store.close();
-    assert!(rt; found?);
+    let conn = connected(rt.alloc(), LOOSE, IN_RANGE)?;
+    let lease: Lease = (8, b"a'", State::Bound, 1_099_511_627_775, 1_101_659_111_422);
+    assert!(rt; holds_over(rt.alloc(), conn, &[lease])?);
     Ok(())
 }
 
@@ -268,27 +317,33 @@ fn read_back(store: &mut Store<MemStore>, first: &Row, second: &Row) -> Result<u
     Ok(rows.len())
 }
 
-// Puts two rows into a new store, and returns how many are read.
-fn two(alloc: Global) -> Result<usize, StoreFault> {
-    let Ok(first) = row(alloc, KEPT[0]) else {
-        return Err(StoreFault::Sql(Cause::OutOfMemory));
-    };
-    let Ok(second) = row(alloc, KEPT[1]) else {
-        return Err(StoreFault::Sql(Cause::OutOfMemory));
-    };
+// The fault of a store without memory.
+const NO_MEMORY: StoreFault = StoreFault::Sql(Cause::OutOfMemory);
+
+// Does so in a new store in memory.
+fn read_in_memory(alloc: Global, first: &Row, second: &Row) -> Result<usize, StoreFault> {
     if !first.is_in_range() || !second.is_in_range() {
         return Err(StoreFault::Schema);
     }
     let Ok(conn) = Connection::open_in_memory(alloc) else {
-        return Err(StoreFault::Sql(Cause::OutOfMemory));
+        return Err(NO_MEMORY);
     };
-    let mut store = match Store::open(alloc, conn) {
-        Ok(store) => store,
-        Err((fault, _)) => return Err(fault),
-    };
-    let read = read_back(&mut store, &first, &second);
-    let _conn = store.close();
-    read
+    match Store::open(alloc, conn) {
+        Ok(mut store) => {
+            let read = read_back(&mut store, first, second);
+            let _conn = store.close();
+            read
+        }
+        Err((fault, _)) => Err(fault),
+    }
+}
+
+// Puts two rows into a new store, and returns how many are read.
+fn two(alloc: Global) -> Result<usize, StoreFault> {
+    match (row(alloc, KEPT[0]), row(alloc, KEPT[1])) {
+        (Ok(first), Ok(second)) => read_in_memory(alloc, &first, &second),
+        _ => Err(NO_MEMORY),
+    }
 }
 
 // If a memory request is refused, the call reports it; the same calls repeated give the same as

@@ -1,11 +1,11 @@
 use crate::days::{Got, Lease, Sent, Step};
-use crate::device::{STOPPED, stored};
+use crate::device::{STOPPED, Work, stored};
 use kd_config::Config;
 use kd_event::{Ports, Response};
 use kd_keeps::{Keeps, StoreFault};
 use kd_replay::{Arrived, ServeFault};
 use kd_rows::Row;
-use kd_server::Server;
+use kd_server::{Lease as Listed, Server};
 use kd_store::Store;
 use sqlite::{Alter, Connection};
 use std::alloc::{AllocError, Global};
@@ -60,8 +60,8 @@ fn served<S: Alter + Drop>(
     }
 }
 
-/// Makes the server over a connection, or returns why that failed, and what is below it.
-pub(crate) fn opened<S: Alter + Drop>(
+// Makes the server over a connection, or returns why that failed, and what is below it.
+fn opened<S: Alter + Drop>(
     alloc: Global,
     config: Config,
     conn: Connection<S>,
@@ -72,23 +72,87 @@ pub(crate) fn opened<S: Alter + Drop>(
     }
 }
 
-/// Closes a server and returns what is below it.
-pub(crate) fn let_go<S: Alter + Drop>(server: Server<Store<S>>) -> S {
+// Closes a server and returns what is below it.
+fn let_go<S: Alter + Drop>(server: Server<Store<S>>) -> S {
     let (_, store) = server.close();
     store.close().into_store()
 }
 
-// The datagram of a message.
+/// Work that a server does.
+pub(crate) trait Serves: Drop {
+    /// What it finds.
+    type Found: Drop;
+
+    /// Does it.
+    fn served<K: Keeps>(self, alloc: Global, server: &mut Server<K>) -> Result<Self::Found, Fail>;
+
+    /// What it finds if no server is opened over the files.
+    fn refused(self, refusal: &Refusal) -> Result<Self::Found, Fail>;
+
+    /// What it finds if the files are not opened, because their device stops.
+    fn unopened(self) -> Result<Self::Found, Fail>;
+}
+
+/// The work of a server with a configuration.
+#[derive(Drop)]
+pub(crate) struct Serving<W> {
+    pub(crate) config: &'static [u8],
+    pub(crate) work: W,
+}
+
+impl<W: Serves> Work for Serving<W> {
+    type Found = W::Found;
+
+    fn done<S: Alter + Drop>(
+        self,
+        alloc: Global,
+        conn: Connection<S>,
+    ) -> (Result<W::Found, Fail>, S) {
+        let Serving { config, work } = self;
+        match Config::read(alloc, config, &[]) {
+            Ok(config) => served_with(alloc, config, conn, work),
+            Err(fault) => (Err(fault.into()), conn.into_store()),
+        }
+    }
+
+    fn unopened(self) -> Result<W::Found, Fail> {
+        let Serving { config: _, work } = self;
+        work.unopened()
+    }
+}
+
+// Does the same with a configuration that was read.
+fn served_with<S: Alter + Drop, W: Serves>(
+    alloc: Global,
+    config: Config,
+    conn: Connection<S>,
+    work: W,
+) -> (Result<W::Found, Fail>, S) {
+    match opened(alloc, config, conn) {
+        Ok(mut server) => {
+            let found = work.served(alloc, &mut server);
+            (found, let_go(server))
+        }
+        Err((refusal, left)) => (work.refused(&refusal), left),
+    }
+}
+
+// Makes the datagram of a message.
 fn datagram(alloc: Global, message: Sent) -> Result<Vec<u8>, AllocError> {
-    let (_, client, options, ciaddr) = message;
     let mut bytes = Vec::from_slice(alloc, &[1, 1, 6, 0, 0, 0, 0, 1, 0, 0, 0, 0])?;
+    write_message(&mut bytes, message)?;
+    Ok(bytes)
+}
+
+// Writes a message from its ciaddr on.
+fn write_message(bytes: &mut Vec<u8>, message: Sent) -> Result<(), AllocError> {
+    let (_, client, options, ciaddr) = message;
     bytes.extend_from_slice(&ciaddr.to_be_bytes())?;
     bytes.resize(28, 0)?;
     bytes.extend_from_slice(&[10, 0, 0, 0, 0, client])?;
     bytes.resize(236, 0)?;
     bytes.extend_from_slice(&[99, 130, 83, 99])?;
-    bytes.extend_from_slice(options)?;
-    Ok(bytes)
+    bytes.extend_from_slice(options)
 }
 
 // The options of a lease of an hour: its time, and its renewal and rebinding times.
@@ -99,8 +163,19 @@ const LEAST: usize = 300;
 
 // Returns the reply of a type to a message, with this yiaddr. That to an INFORM has no times.
 fn reply(alloc: Global, message: Sent, kind: u8, yiaddr: u32) -> Result<Vec<u8>, AllocError> {
-    let (_, client, _, ciaddr) = message;
     let mut bytes = Vec::from_slice(alloc, &[2, 1, 6, 0, 0, 0, 0, 1, 0, 0, 0, 0])?;
+    write_reply(&mut bytes, message, kind, yiaddr)?;
+    Ok(bytes)
+}
+
+// Writes such a reply from its ciaddr on.
+fn write_reply(
+    bytes: &mut Vec<u8>,
+    message: Sent,
+    kind: u8,
+    yiaddr: u32,
+) -> Result<(), AllocError> {
+    let (_, client, _, ciaddr) = message;
     bytes.extend_from_slice(&ciaddr.to_be_bytes())?;
     bytes.extend_from_slice(&yiaddr.to_be_bytes())?;
     bytes.resize(28, 0)?;
@@ -111,8 +186,7 @@ fn reply(alloc: Global, message: Sent, kind: u8, yiaddr: u32) -> Result<Vec<u8>,
         bytes.extend_from_slice(TIMES)?;
     }
     bytes.extend_from_slice(&[1, 4, 255, 255, 255, 0, 255])?;
-    bytes.resize(LEAST, 0)?;
-    Ok(bytes)
+    bytes.resize(LEAST, 0)
 }
 
 /// Reports whether a response is the expected one, byte for byte if it is a reply.
@@ -147,10 +221,16 @@ pub(crate) fn sent<S: Keeps>(
 pub(crate) fn arrived(alloc: Global, steps: &[Step]) -> Result<Vec<Arrived>, AllocError> {
     let mut events = Vec::new(alloc);
     for step in steps {
-        let bytes = datagram(alloc, step.0)?;
-        events.push(Arrived::holding(alloc, step.0.0, bytes.as_slice())?)?;
+        push_event(alloc, &mut events, step.0)?;
     }
     Ok(events)
+}
+
+// Pushes a message as it arrives.
+fn push_event(alloc: Global, events: &mut Vec<Arrived>, message: Sent) -> Result<(), AllocError> {
+    let bytes = datagram(alloc, message)?;
+    events.push(Arrived::holding(alloc, message.0, bytes.as_slice())?)?;
+    Ok(())
 }
 
 // Reports whether the row has all that the lease says.
@@ -169,13 +249,18 @@ pub(crate) fn stands_at<S: Keeps>(
     leases: &[Lease],
 ) -> Result<bool, ServeFault> {
     let rows = server.leases(0)?;
+    Ok(are_rows_of(rows.as_slice(), leases))
+}
+
+// Reports whether the rows are those of the leases, in order.
+fn are_rows_of(rows: &[Listed], leases: &[Lease]) -> bool {
     if rows.len() != leases.len() {
-        return Ok(false);
+        return false;
     }
     for i in 0..rows.len() {
         if !is_row_of(&rows[i].row, leases[i]) {
-            return Ok(false);
+            return false;
         }
     }
-    Ok(true)
+    true
 }

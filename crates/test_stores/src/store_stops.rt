@@ -1,7 +1,7 @@
-use crate::device::{Device, STOPPED, Work, files, over_files, stored};
+use crate::device::{Device, STOPPED, Work, files, found_over, over_files, stored};
 use crate::leases::{Lease, are_rows_of, row};
 use kd_keeps::{Keeps, StoreFault};
-use kd_rows::State;
+use kd_rows::{Row, State};
 use kd_store::Store;
 use sqlite::{Alter, Connection, Files, Options};
 use sqlite_disk::Crash;
@@ -17,7 +17,7 @@ const SECOND: Lease = (7, b"c", State::Released, 4, 60);
 const TABLES: [&[Lease]; 3] = [&[], &[FIRST], &[SECOND]];
 
 // Whether a lease is put without a fault.
-fn is_put<S: Keeps>(alloc: Global, store: &mut S, lease: Lease) -> Result<bool, Fail> {
+fn is_put<S: Alter>(alloc: Global, store: &mut Store<S>, lease: Lease) -> Result<bool, Fail> {
     let row = row(alloc, lease)?;
     if store.failed() || !row.is_in_range() {
         return Ok(false);
@@ -26,7 +26,7 @@ fn is_put<S: Keeps>(alloc: Global, store: &mut S, lease: Lease) -> Result<bool, 
 }
 
 // Whether the rows are read without a fault.
-fn are_read<S: Keeps>(store: &mut S) -> bool {
+fn are_read<S: Alter>(store: &mut Store<S>) -> bool {
     if store.failed() {
         return false;
     }
@@ -35,7 +35,7 @@ fn are_read<S: Keeps>(store: &mut S) -> bool {
 
 // Returns how many calls succeed before the first fault: the one that opened the store, then two
 // puts, each followed by a read.
-fn answered<S: Keeps>(alloc: Global, store: &mut S) -> Result<usize, Fail> {
+fn answered<S: Alter>(alloc: Global, store: &mut Store<S>) -> Result<usize, Fail> {
     if !is_put(alloc, store, FIRST)? {
         return Ok(1);
     }
@@ -64,6 +64,10 @@ impl Work for Calls {
             Err((fault, left)) => (none(fault), left),
         }
     }
+
+    fn unopened(self) -> Result<usize, Fail> {
+        Ok(0)
+    }
 }
 
 // Does the same over a store.
@@ -81,30 +85,25 @@ fn none(fault: StoreFault) -> Result<usize, Fail> {
     }
 }
 
-// Does the same over files, and returns what is left of them, and how many calls succeed.
-fn stopped(alloc: Global, files: Files<Device>) -> Result<(Files<Device>, usize), Fail> {
-    let (found, left) = over_files(alloc, files, Options::new(1), Calls);
-    match found {
-        Some(Ok(calls)) => Ok((left, calls)),
-        Some(Err(fault)) => Err(fault),
-        None => Ok((left, 0)),
-    }
-}
-
 // By the number of calls that succeeded, the numbers of the tables before and after the next call.
 const LEFT: [(usize, usize); 6] = [(0, 0), (0, 1), (1, 1), (1, 2), (2, 2), (2, 2)];
 
 // Reports whether the store has the table before the next call, or the one after it.
-fn is_at_either<S: Keeps>(store: &mut S, answered: usize) -> Result<bool, Fail> {
-    if store.failed() || answered >= LEFT.len() {
+fn is_at_either<S: Alter>(store: &mut Store<S>, answered: usize) -> Result<bool, Fail> {
+    if store.failed() {
         return Ok(false);
     }
     let rows = store.rows()?;
+    Ok(are_left(rows.as_slice(), answered))
+}
+
+// Reports whether these are the rows before the next call, or those after it.
+fn are_left(rows: &[Row], answered: usize) -> bool {
+    if answered >= LEFT.len() {
+        return false;
+    }
     let (before, after) = LEFT[answered];
-    Ok(
-        are_rows_of(rows.as_slice(), TABLES[before % 3])
-            || are_rows_of(rows.as_slice(), TABLES[after % 3]),
-    )
+    are_rows_of(rows, TABLES[before % 3]) || are_rows_of(rows, TABLES[after % 3])
 }
 
 // Finds whether this holds after a number of calls that succeeded.
@@ -120,6 +119,10 @@ impl Work for Beside {
             Err((_, left)) => (Ok(false), left),
         }
     }
+
+    fn unopened(self) -> Result<bool, Fail> {
+        Ok(false)
+    }
 }
 
 // Does the same over a store.
@@ -133,18 +136,22 @@ fn looked<S: Alter + Drop>(mut store: Store<S>, answered: usize) -> (Result<bool
 fn is_left(alloc: Global, mut files: Files<Device>, answered: usize) -> Result<bool, Fail> {
     files.log.crash();
     files.db.crash();
-    let (found, _left) = over_files(alloc, files, Options::new(1), Beside(answered));
-    match found {
-        Some(is_beside) => is_beside,
-        None => Ok(false),
-    }
+    found_over(alloc, files, Options::new(1), Beside(answered))
+}
+
+// Makes the five calls over files of which a number of calls succeed. Returns how many of the five
+// succeed, and whether this holds of what is left.
+fn stop_at(alloc: Global, calls: (u64, u64)) -> Result<(usize, bool), Fail> {
+    let (answered, files) = over_files(alloc, files(alloc, calls), Options::new(1), Calls);
+    let answered = answered?;
+    Ok((answered, is_left(alloc, files, answered)?))
 }
 
 #[test]
 fn a_stop_of_the_log_leaves_the_table_before_or_after(rt: HostRuntime) -> Result<(), Fail> {
     for calls in 0..1000u64 {
-        let (left, answered) = stopped(rt.alloc(), files(rt.alloc(), (calls, u64::MAX)))?;
-        assert!(rt; is_left(rt.alloc(), left, answered)?, "at {calls}");
+        let (answered, is_left) = stop_at(rt.alloc(), (calls, u64::MAX))?;
+        assert!(rt; is_left, "at {calls}");
         if answered == 5 {
             assert!(rt; calls > 20, "at {calls}");
             return Ok(());
@@ -156,8 +163,8 @@ fn a_stop_of_the_log_leaves_the_table_before_or_after(rt: HostRuntime) -> Result
 #[test]
 fn a_stop_of_the_database_leaves_the_table_before_or_after(rt: HostRuntime) -> Result<(), Fail> {
     for calls in 0..1000u64 {
-        let (left, answered) = stopped(rt.alloc(), files(rt.alloc(), (u64::MAX, calls)))?;
-        assert!(rt; is_left(rt.alloc(), left, answered)?, "at {calls}");
+        let (answered, is_left) = stop_at(rt.alloc(), (u64::MAX, calls))?;
+        assert!(rt; is_left, "at {calls}");
         if answered == 5 {
             assert!(rt; calls > 0, "at {calls}");
             return Ok(());
