@@ -186,8 +186,7 @@ fn given_address(
     bytes: &[u8; 300],
     round: u32,
 ) -> Result<Option<u32>, AllocError> {
-    let moment = MOMENT + u64::from(round);
-    let (row, address) = decide_datagram(alloc, &desk.leases, bytes, moment)?;
+    let (row, address) = decide_datagram(alloc, &desk.leases, bytes, round)?;
     match row {
         Some(row) if sets_rows(desk.asks) => set(&mut desk.leases, row)?,
         _ => {}
@@ -195,18 +194,19 @@ fn given_address(
     Ok(address)
 }
 
-// Decides a datagram: the row that it sets, if it does, and the address that the reply gives, if
-// there is a reply that is not a NAK.
+// Decides the datagram of a round: the row that it sets, if it does, and the address that the reply
+// gives, if there is a reply that is not a NAK.
 fn decide_datagram(
     alloc: Global,
     leases: &Leases,
     bytes: &[u8; 300],
-    moment: u64,
+    round: u32,
 ) -> Result<(Option<Row>, Option<u32>), AllocError> {
     let Ok(message) = Message::read(alloc, bytes) else {
         return Ok((None, None));
     };
     let names = leases.config().classes().held(alloc, &message)?;
+    let moment = MOMENT + u64::from(round);
     let Verdict { row, answer } = decide_on(alloc, leases.ground(), &message, &names, moment)?;
     let address = match answer {
         Ok(plan) if plan.kind != PlanKind::Nak => Some(plan.yiaddr),
