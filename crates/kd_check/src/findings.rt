@@ -6,7 +6,7 @@ ghost use Rattle.kd_check.specs.Findings.{file_trouble_words, store_trouble_word
 use std::fmt;
 
 /// Why a file cannot be read.
-#[derive(Clone, Copy, Debug, PartialEq, Eq)]
+#[derive(Clone, Copy, PartialEq, Eq)]
 pub enum FileTrouble {
     /// No file has the path.
     Absent,
@@ -18,6 +18,12 @@ pub enum FileTrouble {
     TooLarge,
     /// Another cause.
     Other,
+}
+
+impl fmt::Debug for FileTrouble {
+    fn fmt<W: fmt::Write>(&self, f: &mut fmt::Formatter<W>) -> fmt::Result {
+        fmt::Display::fmt(self, f)
+    }
 }
 
 impl FileTrouble {
@@ -48,7 +54,7 @@ impl fmt::Display for FileTrouble {
 }
 
 /// Why a database cannot be opened.
-#[derive(Clone, Copy, Debug, PartialEq, Eq)]
+#[derive(Clone, Copy, PartialEq, Eq)]
 pub enum StoreTrouble {
     /// Another process has it open.
     Locked,
@@ -62,6 +68,12 @@ pub enum StoreTrouble {
     NoFolder,
     /// Another cause.
     Other,
+}
+
+impl fmt::Debug for StoreTrouble {
+    fn fmt<W: fmt::Write>(&self, f: &mut fmt::Formatter<W>) -> fmt::Result {
+        fmt::Display::fmt(self, f)
+    }
 }
 
 impl StoreTrouble {
@@ -93,7 +105,7 @@ impl fmt::Display for StoreTrouble {
 }
 
 /// Why a socket cannot be opened.
-#[derive(Clone, Copy, Debug, PartialEq, Eq)]
+#[derive(Clone, Copy, PartialEq, Eq)]
 pub enum SocketTrouble {
     /// Another process uses the port at this address.
     Taken,
@@ -103,6 +115,12 @@ pub enum SocketTrouble {
     NoSuchAddress,
     /// Another cause.
     Other,
+}
+
+impl fmt::Debug for SocketTrouble {
+    fn fmt<W: fmt::Write>(&self, f: &mut fmt::Formatter<W>) -> fmt::Result {
+        fmt::Display::fmt(self, f)
+    }
 }
 
 impl SocketTrouble {

@@ -1,11 +1,12 @@
 ghost use Rattle.std.specs.Prelude.{◌≡◌};
 ghost use Rattle.kd_classes.specs.Order.{class_fault_number};
 
+use std::fmt;
 use thiserror::Error;
 
 /// Why class definitions are refused: the first fault in their order. The payload is the index of
 /// the definition.
-#[derive(Clone, Copy, PartialEq, Eq, Debug, Error)]
+#[derive(Clone, Copy, PartialEq, Eq, Error)]
 pub enum ClassFault {
     /// An earlier definition has the same name.
     #[error("Duplicate {0}")]
@@ -17,6 +18,12 @@ pub enum ClassFault {
     /// There are more than 256 definitions.
     #[error("TooMany")]
     TooMany,
+}
+
+impl fmt::Debug for ClassFault {
+    fn fmt<W: fmt::Write>(&self, f: &mut fmt::Formatter<W>) -> fmt::Result {
+        fmt::Display::fmt(self, f)
+    }
 }
 
 impl ClassFault {

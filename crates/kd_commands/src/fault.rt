@@ -3,10 +3,11 @@ ghost use Rattle.kd_commands.specs.Order.{line_fault_number};
 ghost use Rattle.kd_commands.specs.declared.fault.LineFault.TheVariants.{Memory};
 
 use std::alloc::AllocError;
+use std::fmt;
 use thiserror::Error;
 
 /// Why the arguments are not an order.
-#[derive(Clone, Copy, PartialEq, Eq, Debug, Error)]
+#[derive(Clone, Copy, PartialEq, Eq, Error)]
 pub enum LineFault {
     /// The arguments do not follow the help text.
     #[error("CommandLine")]
@@ -14,6 +15,12 @@ pub enum LineFault {
     /// Memory ran out.
     #[error("Memory")]
     Memory,
+}
+
+impl fmt::Debug for LineFault {
+    fn fmt<W: fmt::Write>(&self, f: &mut fmt::Formatter<W>) -> fmt::Result {
+        fmt::Display::fmt(self, f)
+    }
 }
 
 impl LineFault {

@@ -2,10 +2,11 @@ ghost use Rattle.std.specs.Prelude.{◌≡◌};
 ghost use Rattle.kd_compile.specs.Compiled.{compile_fault_number};
 
 use std::alloc::{AllocError, AllocFailed};
+use std::fmt;
 use thiserror::Error;
 
 /// Why a class test cannot be compiled: the first limit that its program would be over.
-#[derive(Clone, Copy, PartialEq, Eq, Debug, Error)]
+#[derive(Clone, Copy, PartialEq, Eq, Error)]
 pub enum CompileFault {
     /// It would have more than 1,024 tokens.
     #[error("TooManyTokens")]
@@ -22,6 +23,12 @@ pub enum CompileFault {
     /// There is no memory for the program.
     #[error("Memory")]
     Memory,
+}
+
+impl fmt::Debug for CompileFault {
+    fn fmt<W: fmt::Write>(&self, f: &mut fmt::Formatter<W>) -> fmt::Result {
+        fmt::Display::fmt(self, f)
+    }
 }
 
 impl CompileFault {

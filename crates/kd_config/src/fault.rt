@@ -6,10 +6,11 @@ use kd_compile::CompileFault;
 use kd_expr::{ExprFault, TypeFault};
 use kd_token::{FileFault, VerifyFault};
 use std::alloc::{AllocError, AllocFailed};
+use std::fmt;
 use thiserror::Error;
 
 /// Why the text of a class's test has no program. It prints as the fault it contains.
-#[derive(Clone, Copy, Debug, Error)]
+#[derive(Clone, Copy, Error)]
 pub enum TestFault {
     /// The text is not an expression.
     #[error("{0}")]
@@ -22,8 +23,14 @@ pub enum TestFault {
     Compiling(CompileFault),
 }
 
+impl fmt::Debug for TestFault {
+    fn fmt<W: fmt::Write>(&self, f: &mut fmt::Formatter<W>) -> fmt::Result {
+        fmt::Display::fmt(self, f)
+    }
+}
+
 /// Why the token file of a class's test has no program. It prints as the fault it contains.
-#[derive(Clone, Copy, Debug, Error)]
+#[derive(Clone, Copy, Error)]
 pub enum FileTestFault {
     /// No file has the name.
     #[error("Absent")]
@@ -36,9 +43,15 @@ pub enum FileTestFault {
     Verify(VerifyFault),
 }
 
+impl fmt::Debug for FileTestFault {
+    fn fmt<W: fmt::Write>(&self, f: &mut fmt::Formatter<W>) -> fmt::Result {
+        fmt::Display::fmt(self, f)
+    }
+}
+
 /// Why a text is not a configuration. A path consists of the keys and list indexes from the root,
 /// each after `/`.
-#[derive(Drop, Debug, Error)]
+#[derive(Drop, Error)]
 pub enum ConfigFault {
     /// The text is not JSON.
     #[error("Json")]
@@ -75,6 +88,12 @@ pub enum ConfigFault {
     /// There is not enough memory for the configuration.
     #[error("Memory")]
     Memory,
+}
+
+impl fmt::Debug for ConfigFault {
+    fn fmt<W: fmt::Write>(&self, f: &mut fmt::Formatter<W>) -> fmt::Result {
+        fmt::Display::fmt(self, f)
+    }
 }
 
 impl ConfigFault {

@@ -5,10 +5,11 @@ ghost use Rattle.kd_expr.specs.declared.fault.SyntaxFault.TheVariants as inner;
 
 use crate::node::Node;
 use std::alloc::{AllocError, AllocFailed};
+use std::fmt;
 use thiserror::Error;
 
 /// Why a text is not an expression. A place is the offset of a token's first byte.
-#[derive(Clone, Copy, PartialEq, Eq, Debug, Error)]
+#[derive(Clone, Copy, PartialEq, Eq, Error)]
 pub enum ExprFault {
     /// No token begins at this place.
     #[error("BadToken {0}")]
@@ -33,6 +34,12 @@ pub enum ExprFault {
     Memory,
 }
 
+impl fmt::Debug for ExprFault {
+    fn fmt<W: fmt::Write>(&self, f: &mut fmt::Formatter<W>) -> fmt::Result {
+        fmt::Display::fmt(self, f)
+    }
+}
+
 impl ExprFault {
     /// Returns the fault's number: 20 to 25, or 91 if out of memory.
     pub fn number(self) -> u8
@@ -51,7 +58,7 @@ impl ExprFault {
 }
 
 /// Why an expression is not a class test. A place is the offset of an operand's first byte.
-#[derive(Clone, Copy, PartialEq, Eq, Debug, Error)]
+#[derive(Clone, Copy, PartialEq, Eq, Error)]
 pub enum TypeFault {
     /// A truth value is needed at this place.
     #[error("WantsBool {0}")]
@@ -62,6 +69,12 @@ pub enum TypeFault {
     /// A number is needed at this place.
     #[error("WantsInt {0}")]
     WantsInt(usize),
+}
+
+impl fmt::Debug for TypeFault {
+    fn fmt<W: fmt::Write>(&self, f: &mut fmt::Formatter<W>) -> fmt::Result {
+        fmt::Display::fmt(self, f)
+    }
 }
 
 impl TypeFault {

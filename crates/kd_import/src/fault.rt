@@ -3,10 +3,11 @@ ghost use Rattle.kd_import.specs.Import.{import_fault_number};
 ghost use Rattle.kd_import.specs.declared.fault.ImportFault.TheVariants.{Memory};
 
 use std::alloc::AllocError;
+use std::fmt;
 use thiserror::Error;
 
 /// Why a text cannot be read as a table of leases.
-#[derive(Clone, Copy, PartialEq, Eq, Debug, Error)]
+#[derive(Clone, Copy, PartialEq, Eq, Error)]
 pub enum ImportFault {
     /// A line is not that of a lease, or its address is in an earlier line; the number of the line,
     /// counted from 1.
@@ -15,6 +16,12 @@ pub enum ImportFault {
     /// Out of memory.
     #[error("Memory")]
     Memory,
+}
+
+impl fmt::Debug for ImportFault {
+    fn fmt<W: fmt::Write>(&self, f: &mut fmt::Formatter<W>) -> fmt::Result {
+        fmt::Display::fmt(self, f)
+    }
 }
 
 impl ImportFault {

@@ -8,11 +8,11 @@ use std::alloc::{AllocError, AllocFailed, Global};
 use std::fs::File;
 use std::io::{ErrorKind, Read};
 use std::rt::Files;
-use std::{fmt, fs, io};
+use std::{fmt, fmt, fs, io};
 use thiserror::Error;
 
 /// Why a file or a folder cannot be read.
-#[derive(Clone, Copy, PartialEq, Eq, Debug, Error)]
+#[derive(Clone, Copy, PartialEq, Eq, Error)]
 pub enum InputFault {
     /// It cannot be opened or read, or a file is too long.
     #[error("Read")]
@@ -20,6 +20,12 @@ pub enum InputFault {
     /// Memory ran out.
     #[error("Memory")]
     Memory,
+}
+
+impl fmt::Debug for InputFault {
+    fn fmt<W: fmt::Write>(&self, f: &mut fmt::Formatter<W>) -> fmt::Result {
+        fmt::Display::fmt(self, f)
+    }
 }
 
 impl InputFault {

@@ -6,10 +6,11 @@ ghost use Rattle.kd_io.specs.declared.look.LookFault.TheVariants as faults;
 use crate::files::InputFault;
 use kd_keeps::StoreFault;
 use kd_wire::Bytes;
+use std::fmt;
 use thiserror::Error;
 
 /// Why a look at a database finds no leases.
-#[derive(Clone, Copy, PartialEq, Eq, Debug, Error)]
+#[derive(Clone, Copy, PartialEq, Eq, Error)]
 pub enum LookFault {
     /// The database or its log cannot be read.
     #[error("{0}")]
@@ -20,6 +21,12 @@ pub enum LookFault {
     /// What was read is not a store of leases.
     #[error("{0}")]
     Store(StoreFault),
+}
+
+impl fmt::Debug for LookFault {
+    fn fmt<W: fmt::Write>(&self, f: &mut fmt::Formatter<W>) -> fmt::Result {
+        fmt::Display::fmt(self, f)
+    }
 }
 
 impl LookFault {

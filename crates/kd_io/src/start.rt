@@ -6,11 +6,12 @@ ghost use Rattle.kd_io.specs.Start.{AreOfFolder, IsNoStart, IsOfFiles, IsStart};
 use crate::files::{InputFault, MOST_BYTES, read_file, token_files};
 use kd_config::{Config, ConfigFault, TokenFile};
 use std::alloc::{AllocError, Global};
+use std::fmt;
 use std::rt::Files;
 use thiserror::Error;
 
 /// Why there is no configuration to start with.
-#[derive(Drop, Debug, Error)]
+#[derive(Drop, Error)]
 pub enum StartFault {
     /// The folder of the token files or the configuration file cannot be read.
     #[error("{0}")]
@@ -18,6 +19,12 @@ pub enum StartFault {
     /// The file's text is not a configuration.
     #[error("{0}")]
     Config(ConfigFault),
+}
+
+impl fmt::Debug for StartFault {
+    fn fmt<W: fmt::Write>(&self, f: &mut fmt::Formatter<W>) -> fmt::Result {
+        fmt::Display::fmt(self, f)
+    }
 }
 
 impl StartFault {

@@ -2,10 +2,11 @@ ghost use Rattle.std.specs.Prelude.{◌≡◌};
 ghost use Rattle.std.specs.Result.{result_err};
 ghost use Rattle.kd_keeps.specs.Fault.{store_fault_number};
 
+use std::fmt;
 use thiserror::Error;
 
 /// Why a call to a database failed, named after SQLite's result codes.
-#[derive(Clone, Copy, PartialEq, Eq, Debug)]
+#[derive(Clone, Copy, PartialEq, Eq)]
 pub enum Cause {
     /// There is no memory.
     OutOfMemory,
@@ -24,7 +25,7 @@ pub enum Cause {
 }
 
 /// Why a call to a store failed.
-#[derive(Clone, Copy, PartialEq, Eq, Debug, Error)]
+#[derive(Clone, Copy, PartialEq, Eq, Error)]
 pub enum StoreFault {
     /// The database has a table `lease` that is not ours, or a row that is out of range.
     #[error("Schema")]
@@ -32,6 +33,12 @@ pub enum StoreFault {
     /// A call to the database failed, for this cause. The cause is not printed.
     #[error("Sql")]
     Sql(Cause),
+}
+
+impl fmt::Debug for StoreFault {
+    fn fmt<W: fmt::Write>(&self, f: &mut fmt::Formatter<W>) -> fmt::Result {
+        fmt::Display::fmt(self, f)
+    }
 }
 
 impl StoreFault {

@@ -6,10 +6,16 @@ use std::error::Error;
 use std::fmt;
 
 /// Why a run has no outcome.
-#[derive(Clone, Copy, PartialEq, Eq, Debug)]
+#[derive(Clone, Copy, PartialEq, Eq)]
 pub enum EvalFault {
     /// There is not enough memory for a value.
     Memory,
+}
+
+impl fmt::Debug for EvalFault {
+    fn fmt<W: fmt::Write>(&self, f: &mut fmt::Formatter<W>) -> fmt::Result {
+        fmt::Display::fmt(self, f)
+    }
 }
 
 impl fmt::Display for EvalFault {

@@ -8,12 +8,18 @@ use std::fmt;
 use thiserror::Error;
 
 /// An option that holds one IPv4 address (RFC 2132 sections 9.1 and 9.7).
-#[derive(Clone, Copy, PartialEq, Eq, Debug)]
+#[derive(Clone, Copy, PartialEq, Eq)]
 pub enum AddressOption {
     /// Option 50, the address that the client asks for.
     RequestedAddress,
     /// Option 54, the server that the client addresses.
     ServerIdentifier,
+}
+
+impl fmt::Debug for AddressOption {
+    fn fmt<W: fmt::Write>(&self, f: &mut fmt::Formatter<W>) -> fmt::Result {
+        fmt::Display::fmt(self, f)
+    }
 }
 
 impl AddressOption {
@@ -42,7 +48,7 @@ impl fmt::Display for AddressOption {
 }
 
 /// Why a datagram cannot be read as a message.
-#[derive(Clone, Copy, PartialEq, Eq, Debug, Error)]
+#[derive(Clone, Copy, PartialEq, Eq, Error)]
 pub enum ReadFault {
     /// The bytes do not have the header of a DHCP message.
     #[error("{0}")]
@@ -63,6 +69,12 @@ pub enum ReadFault {
     /// There is no memory for the options.
     #[error("Memory")]
     Memory,
+}
+
+impl fmt::Debug for ReadFault {
+    fn fmt<W: fmt::Write>(&self, f: &mut fmt::Formatter<W>) -> fmt::Result {
+        fmt::Display::fmt(self, f)
+    }
 }
 
 impl ReadFault {
@@ -93,7 +105,7 @@ impl From<WireFault> for ReadFault {
 }
 
 /// Why a reply cannot be written.
-#[derive(Clone, Copy, PartialEq, Eq, Debug, Error)]
+#[derive(Clone, Copy, PartialEq, Eq, Error)]
 pub enum WriteFault {
     /// The obligatory options do not fit in the room.
     #[error("TooLong")]
@@ -101,6 +113,12 @@ pub enum WriteFault {
     /// There is no memory for the reply's bytes.
     #[error("Memory")]
     Memory,
+}
+
+impl fmt::Debug for WriteFault {
+    fn fmt<W: fmt::Write>(&self, f: &mut fmt::Formatter<W>) -> fmt::Result {
+        fmt::Display::fmt(self, f)
+    }
 }
 
 impl WriteFault {

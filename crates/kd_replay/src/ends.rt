@@ -1,7 +1,8 @@
+use std::fmt;
 use thiserror::Error;
 
 /// A source cannot be read, or a sink cannot be written.
-#[derive(Clone, Copy, PartialEq, Eq, Debug, Error)]
+#[derive(Clone, Copy, PartialEq, Eq, Error)]
 #[error("EndFailed")]
 pub struct EndFailed;
 
@@ -22,6 +23,12 @@ pub trait Source {
         ensures count { IfOk result (λ n. n ≤ length buf.new) }
         ensures bytes { ReadConsumes (remaining self.old) (remaining self.new) result buf.new }
         ensures failed { has_failed self.new ≡ (has_failed self.old || is_err result) };
+}
+
+impl fmt::Debug for EndFailed {
+    fn fmt<W: fmt::Write>(&self, f: &mut fmt::Formatter<W>) -> fmt::Result {
+        fmt::Display::fmt(self, f)
+    }
 }
 
 /// Where a replay writes its lines.

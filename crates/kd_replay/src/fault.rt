@@ -3,10 +3,11 @@ ghost use Rattle.kd_replay.specs.Faults.{loop_fault_number, replay_fault_number,
 
 use kd_keeps::StoreFault;
 use std::alloc::AllocError;
+use std::fmt;
 use thiserror::Error;
 
 /// Why an event is not handled.
-#[derive(Clone, Copy, PartialEq, Eq, Debug, Error)]
+#[derive(Clone, Copy, PartialEq, Eq, Error)]
 pub enum ServeFault {
     /// The time is not below 2^40.
     #[error("MomentTooLarge")]
@@ -21,6 +22,12 @@ pub enum ServeFault {
     /// The lease store failed at an earlier event and was not opened again.
     #[error("Failed")]
     Failed,
+}
+
+impl fmt::Debug for ServeFault {
+    fn fmt<W: fmt::Write>(&self, f: &mut fmt::Formatter<W>) -> fmt::Result {
+        fmt::Display::fmt(self, f)
+    }
 }
 
 impl ServeFault {
@@ -48,7 +55,7 @@ impl From<AllocError> for ServeFault {
 }
 
 /// Why a replay ends before its input does.
-#[derive(Clone, Copy, PartialEq, Eq, Debug, Error)]
+#[derive(Clone, Copy, PartialEq, Eq, Error)]
 pub enum ReplayFault {
     /// There is not enough memory for the lines or for an event.
     #[error("Memory")]
@@ -65,6 +72,12 @@ pub enum ReplayFault {
     /// The line with this number, counted from 1, is not an event.
     #[error("BadLine {0}")]
     BadLine(u64),
+}
+
+impl fmt::Debug for ReplayFault {
+    fn fmt<W: fmt::Write>(&self, f: &mut fmt::Formatter<W>) -> fmt::Result {
+        fmt::Display::fmt(self, f)
+    }
 }
 
 impl ReplayFault {
@@ -93,7 +106,7 @@ impl From<AllocError> for ReplayFault {
 }
 
 /// Why serving ends before its count is reached.
-#[derive(Clone, Copy, PartialEq, Eq, Debug, Error)]
+#[derive(Clone, Copy, PartialEq, Eq, Error)]
 pub enum LoopFault {
     /// There is not enough memory to serve in, or for an event.
     #[error("Memory")]
@@ -114,6 +127,12 @@ pub enum LoopFault {
     /// An event is not handled, for a fault other than being out of memory.
     #[error("Serve {0}")]
     Serve(ServeFault),
+}
+
+impl fmt::Debug for LoopFault {
+    fn fmt<W: fmt::Write>(&self, f: &mut fmt::Formatter<W>) -> fmt::Result {
+        fmt::Display::fmt(self, f)
+    }
 }
 
 impl LoopFault {

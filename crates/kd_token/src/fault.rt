@@ -2,11 +2,12 @@ ghost use Rattle.std.specs.Prelude.{◌≡◌};
 ghost use Rattle.kd_token.specs.Faults.{file_fault_number, verify_fault_number};
 
 use std::alloc::{AllocError, AllocFailed};
+use std::fmt;
 use thiserror::Error;
 
 /// Why bytes are not a token file: the first fault from left to right. Places are offsets from the
 /// file's first byte.
-#[derive(Clone, Copy, PartialEq, Eq, Debug, Error)]
+#[derive(Clone, Copy, PartialEq, Eq, Error)]
 pub enum FileFault {
     /// The file does not begin with the four bytes `K4TK`.
     #[error("Magic")]
@@ -35,6 +36,12 @@ pub enum FileFault {
     /// There is no memory for the program.
     #[error("Memory")]
     Memory,
+}
+
+impl fmt::Debug for FileFault {
+    fn fmt<W: fmt::Write>(&self, f: &mut fmt::Formatter<W>) -> fmt::Result {
+        fmt::Display::fmt(self, f)
+    }
 }
 
 impl FileFault {
@@ -77,7 +84,7 @@ impl<T: Drop> From<AllocFailed<T>> for FileFault {
 
 /// Why a program is not accepted: the first fault in the order of the tokens. Places are numbers of
 /// tokens from 0; the number of tokens itself is the end.
-#[derive(Clone, Copy, PartialEq, Eq, Debug, Error)]
+#[derive(Clone, Copy, PartialEq, Eq, Error)]
 pub enum VerifyFault {
     /// A token needs more values than the stack has.
     #[error("Short {0}")]
@@ -103,6 +110,12 @@ pub enum VerifyFault {
     /// There is no memory for the table of shapes.
     #[error("Memory")]
     Memory,
+}
+
+impl fmt::Debug for VerifyFault {
+    fn fmt<W: fmt::Write>(&self, f: &mut fmt::Formatter<W>) -> fmt::Result {
+        fmt::Display::fmt(self, f)
+    }
 }
 
 impl VerifyFault {

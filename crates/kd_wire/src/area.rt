@@ -2,14 +2,21 @@ ghost use Rattle.std.specs.Prelude.{◌≡◌, ◌<◌, List, length, IfOk, IfEr
 ghost use Rattle.kd_wire.specs.Area.{Piece, IsArea, IsCutAt};
 
 use crate::walk::{Front, Pieces, front_of, pieces_over};
+use std::fmt;
 use thiserror::Error;
 
 /// An option has no length byte, or its length is more than the bytes that follow it.
-#[derive(Clone, Copy, PartialEq, Eq, Debug, Error)]
+#[derive(Clone, Copy, PartialEq, Eq, Error)]
 #[error("Cut {at}")]
 pub struct Cut {
     /// The offset of the option's code byte in the area.
     pub at: usize,
+}
+
+impl fmt::Debug for Cut {
+    fn fmt<W: fmt::Write>(&self, f: &mut fmt::Formatter<W>) -> fmt::Result {
+        fmt::Display::fmt(self, f)
+    }
 }
 
 /// Returns the pieces of an option area, in order, without pads and End (RFC 2132 sections 3.1 and

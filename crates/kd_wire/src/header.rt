@@ -2,6 +2,7 @@ ghost use Rattle.std.specs.Prelude.{◌≡◌, ◌≤◌, IfOk, length};
 ghost use Rattle.kd_wire.specs.Header.{header_of, header_read, fault_number};
 
 use byteorder::{BigEndian, ByteOrder};
+use std::fmt;
 use thiserror::Error;
 
 /// The fields of a DHCP message from `op` to `file` (RFC 2131 section 2), in the order of the
@@ -39,7 +40,7 @@ pub struct Header {
 }
 
 /// Why bytes do not have the header of a DHCP message.
-#[derive(Clone, Copy, PartialEq, Eq, Debug, Error)]
+#[derive(Clone, Copy, PartialEq, Eq, Error)]
 pub enum WireFault {
     /// The datagram has fewer than the 240 bytes of the header and the cookie.
     #[error("Short")]
@@ -53,6 +54,12 @@ pub enum WireFault {
     /// The field `op` is neither 1 nor 2.
     #[error("BadOp")]
     BadOp,
+}
+
+impl fmt::Debug for WireFault {
+    fn fmt<W: fmt::Write>(&self, f: &mut fmt::Formatter<W>) -> fmt::Result {
+        fmt::Display::fmt(self, f)
+    }
 }
 
 impl WireFault {
