@@ -3,7 +3,7 @@
 
     hostile.py [--program P] [--only WORK]
 
-Runs works of bench and prints a Markdown table. P is the program, by default crates/bench/out/bench. The columns
+Runs works of bench and prints a Markdown table. P is the program, by default bench/out/bench. The columns
 are the work, its rows and reservations, the instructions of a round (callgrind), its microseconds of processor time (best of
 five runs), the work that it is compared with, the ratios of both figures, the goal, and whether it is met. The cost of a
 run without rounds is subtracted. --only prints the rows of one work. It needs valgrind.
@@ -82,7 +82,7 @@ def shown(figure):
 
 def main():
     words = argparse.ArgumentParser()
-    words.add_argument("--program", default=f"{TOP}/crates/bench/out/bench")
+    words.add_argument("--program", default=f"{TOP}/bench/out/bench")
     words.add_argument("--only")
     words = words.parse_args()
     known = {}

@@ -1,4 +1,4 @@
-// The work of crates/bench in plain Rust, with a Vec of slices:
+// The work of bench/works in plain Rust, with a Vec of slices:
 //   rustc --edition 2021 -O -o /tmp/reading bench/reading.rs && time /tmp/reading discover 2000000
 use std::borrow::Cow;
 use std::hint::black_box;

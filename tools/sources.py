@@ -12,7 +12,9 @@ class Function:
 
     def __init__(self, name, within, lines):
         self.name, self.first, self.begin, self.last = name, *lines
-        self.within, self.cycle, self.attributes = within, None, []
+        self.within, self.cycle, self.attributes, self.is_const = within, None, [], False
+        # The first line of the comments and attributes above it. The prover names the place of an attribute.
+        self.start = self.first
 
     @property
     def path(self):
@@ -71,9 +73,24 @@ def body_of(lines, head, indent):
     return None
 
 
-def functions_of(text, file):
-    """The functions of a file of src/ that have a body of their own, in order."""
-    module = [it for it in file.removeprefix("src/").removesuffix(".rt").split("/") if it not in ("lib", "main", "mod")]
+def module_of(file):
+    """The module of a file of src/, as the parts of its path."""
+    return [it for it in file.removeprefix("src/").removesuffix(".rt").split("/") if it not in ("lib", "main", "mod")]
+
+
+def types_of(texts):
+    """The module in which a crate declares each of its types, by the type's name."""
+    found = {}
+    for file, text in texts.items():
+        for name in re.findall(r"^(?:pub(?:\([a-z]+\))? )?(?:struct|enum) (\w+)", text, re.MULTILINE):
+            found[name] = module_of(file)
+    return found
+
+
+def functions_of(text, file, types):
+    """The functions of a file of src/ that have a body of their own, in order, where `types` is what `types_of` returns. The
+    prover puts a type's own functions into the module of the type, wherever they are."""
+    module = module_of(file)
     lines, found, within, at = text.split("\n"), [], None, 0
     while at < len(lines):
         line = lines[at]
@@ -86,13 +103,14 @@ def functions_of(text, file):
         head = HEAD.match(line)
         body = body_of(lines, at, head[1]) if head else None
         if body:
-            function = Function(head[2], [*module, *([within] if within and head[1] else [])], (at, *body))
-            for above in range(at - 1, -1, -1):
-                if not lines[above].strip().startswith(("#[", "///")):
-                    break
-                if CYCLE.match(lines[above]):
-                    function.cycle = CYCLE.match(lines[above])[1]
-                    function.attributes.append(above)
+            place = [*types.get(within, module), within] if within and head[1] else module
+            function = Function(head[2], place, (at, *body))
+            while function.start and lines[function.start - 1].strip():
+                function.start -= 1
+                cycle = CYCLE.match(lines[function.start])
+                if cycle:
+                    function.cycle = cycle[1]
+                    function.attributes.append(function.start)
             function.is_const = " const fn " in f" {line}" or line.strip().startswith("const fn")
             found.append(function)
             at = body[1]

@@ -8,7 +8,7 @@ use std::alloc::{AllocError, AllocFailed, Global};
 use std::fs::File;
 use std::io::{ErrorKind, Read};
 use std::rt::Files;
-use std::{fmt, fmt, fs, io};
+use std::{fmt, fs, io};
 use thiserror::Error;
 
 /// Why a file or a folder cannot be read.
