@@ -1,4 +1,3 @@
-use crate::support::{DISCOVER, datagram};
 use kd_commands::{Order, order};
 use kd_print::{Printed, answer, exit_status};
 use std::alloc::{AllocError, Global};
@@ -19,23 +18,20 @@ fn put_word(alloc: Global, words: &mut Vec<String>, word: &str) -> Result<(), Al
     Ok(())
 }
 
-// The faults that no case covers: those of the store, of memory and of the output, and those inside
-// Serve.
+// The faults whose exit status no case covers: those of the store, of memory, of the streams, of a
+// server inside a replay, and of what is sent.
 #[test]
 fn each_fault_has_its_exit_status(rt: HostRuntime) {
     for (number, status) in [
         (80, 4),
         (81, 4),
         (89, 3),
-        (90, 3),
         (91, 1),
         (92, 4),
         (93, 4),
         (95, 1),
         (96, 3),
         (99, 3),
-        (100, 1),
-        (101, 4),
     ] {
         assert!(rt; exit_status(number) == status, "{number}");
     }
@@ -74,8 +70,35 @@ fn prints(printed: &Printed, out: &str, fault: &str) -> bool {
 const SHOWN: &str =
     "len 250\nop 1 htype 1 hlen 6 hops 0 xid 00000001 secs 0 flags 0000\nciaddr 0.0.0.0 yiaddr 0.0.0.0 siaddr 0.0.0.0 giaddr 0.0.0.0\nmac 0a0000000001\ntype 1\noption 53 01\noption 60 6b6461\n";
 
-// Arguments, and what they print: the line on standard output, and the fault line.
-const PRINTED: [(&[&str], &str, &str); 9] = [
+// The datagrams of the client 0a0000000001: a DISCOVER of vendor class `kd`, one whose option 60 has
+// a second piece, and a datagram without a type.
+const DISCOVER: &str =
+    "010106000000000100000000000000000000000000000000000000000a0000000001000000000000000000000000\
+    00000000000000000000000000000000000000000000000000000000000000000000000000000000000000000000\
+    00000000000000000000000000000000000000000000000000000000000000000000000000000000000000000000\
+    00000000000000000000000000000000000000000000000000000000000000000000000000000000000000000000\
+    00000000000000000000000000000000000000000000000000000000000000000000000000000000000000000000\
+    000000000000638253633501013c026b64ff";
+
+const JOINED: &str =
+    "010106000000000100000000000000000000000000000000000000000a0000000001000000000000000000000000\
+    00000000000000000000000000000000000000000000000000000000000000000000000000000000000000000000\
+    00000000000000000000000000000000000000000000000000000000000000000000000000000000000000000000\
+    00000000000000000000000000000000000000000000000000000000000000000000000000000000000000000000\
+    00000000000000000000000000000000000000000000000000000000000000000000000000000000000000000000\
+    000000000000638253633501013c026b643c0161";
+
+const UNTYPED: &str =
+    "010106000000000100000000000000000000000000000000000000000a0000000001000000000000000000000000\
+    00000000000000000000000000000000000000000000000000000000000000000000000000000000000000000000\
+    00000000000000000000000000000000000000000000000000000000000000000000000000000000000000000000\
+    00000000000000000000000000000000000000000000000000000000000000000000000000000000000000000000\
+    00000000000000000000000000000000000000000000000000000000000000000000000000000000000000000000\
+    000000000000638253633c0161ff";
+
+// Arguments, and what they print: the lines on standard output, and the fault line.
+const PRINTED: [(&[&str], &str, &str); 16] = [
+    (&["show", JOINED], SHOWN, ""),
     (
         &["expr", "not option[host-name].exists and 'a' + 'b' == 0x1"],
         "bool 8\n",
@@ -116,33 +139,43 @@ const PRINTED: [(&[&str], &str, &str); 9] = [
         "",
         "fault 35 Rest 15\n",
     ),
-];
-
-// The arguments of `eval` without the datagram, of vendor class `kd`, and the line that they print.
-const RUN: [(&[&str], &str); 2] = [
     (
-        &["eval", "4b34544b010005022fff000005033c0100013a100100017809"],
+        &[
+            "eval",
+            "4b34544b010005022fff000005033c0100013a100100017809",
+            DISCOVER,
+        ],
         "false steps 5 depth 2 length 5\n",
+        "",
     ),
     (
-        &["eval", "--text", "hexstring(option[60].hex,':') == '6b:64'"],
+        &[
+            "eval",
+            "--text",
+            "hexstring(option[60].hex,':') == '6b:64'",
+            DISCOVER,
+        ],
         "true steps 5 depth 2 length 5\n",
+        "",
     ),
-];
-
-// The same for a datagram without a type, and the fault line.
-const REFUSED: [(&[&str], &str); 4] = [
     (
-        &["eval", "4b34544b010001010000000001063c"],
+        &["eval", "4b34544b010001010000000001063c", UNTYPED],
+        "",
         "fault 6 NoType\n",
     ),
     (
-        &["eval", "4b34544b010002010000000002063c0b"],
+        &["eval", "4b34544b010002010000000002063c0b", UNTYPED],
+        "",
         "fault 40 Short 1\n",
     ),
-    (&["eval", "--text", "'a' == 'a'"], "fault 6 NoType\n"),
     (
-        &["eval", "--text", "option[60].hex"],
+        &["eval", "--text", "'a' == 'a'", UNTYPED],
+        "",
+        "fault 6 NoType\n",
+    ),
+    (
+        &["eval", "--text", "option[60].hex", UNTYPED],
+        "",
         "fault 26 WantsBool 0\n",
     ),
 ];
@@ -172,63 +205,11 @@ fn prints_again(alloc: Global, words: &[&str], out: &str, fault: &str) -> Result
     print_again(alloc, &words, out, fault)
 }
 
-// Does the same for arguments followed by a datagram with these options.
-fn prints_with(
-    alloc: Global,
-    words: &[&str],
-    options: &[u8],
-    out: &str,
-    fault: &str,
-) -> Result<bool, AllocError> {
-    let mut all = owned(alloc, words)?;
-    put_datagram(alloc, &mut all, options)?;
-    print_again(alloc, &all, out, fault)
-}
-
-// Adds a datagram with these options to arguments.
-fn put_datagram(alloc: Global, words: &mut Vec<String>, options: &[u8]) -> Result<(), AllocError> {
-    let bytes = datagram(alloc, options)?;
-    words.push(hex::encode(alloc, bytes)?)?;
-    Ok(())
-}
-
-// Reports whether each row of `PRINTED` is printed as expected.
-fn print_rows(alloc: Global) -> Result<bool, AllocError> {
-    for (words, out, fault) in &PRINTED {
-        if !prints_again(alloc, words, out, fault)? {
-            return Ok(false);
-        }
-    }
-    Ok(true)
-}
-
-// Does the same for `RUN`.
-fn run_rows(alloc: Global) -> Result<bool, AllocError> {
-    for (words, out) in &RUN {
-        if !prints_with(alloc, words, DISCOVER, out, "")? {
-            return Ok(false);
-        }
-    }
-    Ok(true)
-}
-
-// Does the same for `REFUSED`.
-fn refuse_rows(alloc: Global) -> Result<bool, AllocError> {
-    for (words, fault) in &REFUSED {
-        if !prints_with(alloc, words, b"\x3c\x01a\xff", "", fault)? {
-            return Ok(false);
-        }
-    }
-    Ok(true)
-}
-
 // If an allocation is refused, the call reports it, and the same call repeated gives the lines.
 #[test]
 fn want_of_memory_is_answered_as_such(rt: HostRuntime) -> Result<(), Fail> {
-    let joined = b"\x35\x01\x01\x3c\x02kd\x3c\x01a";
-    assert!(rt; prints_with(rt.alloc(), &["show"], joined, SHOWN, "")?);
-    assert!(rt; print_rows(rt.alloc())?);
-    assert!(rt; run_rows(rt.alloc())?);
-    assert!(rt; refuse_rows(rt.alloc())?);
+    for (words, out, fault) in &PRINTED {
+        assert!(rt; prints_again(rt.alloc(), words, out, fault)?, "{fault}");
+    }
     Ok(())
 }

@@ -77,33 +77,6 @@ fn held_of(alloc: Global, classes: &Classes, message: &Message<'_>) -> Result<He
     Ok(classes.held(alloc, message)?)
 }
 
-#[test]
-fn definitions_stand_at_their_indexes(rt: HostRuntime) -> Result<(), Fail> {
-    match classes(rt.alloc()) {
-        Ok(classes) => expect_four(&classes),
-        Err(fault) => expect(fault == Fault::Memory, "out of memory"),
-    }
-}
-
-// Checks that the four definitions stand at their indexes.
-fn expect_four(classes: &Classes) -> Result<(), Fail> {
-    let names: [&[u8]; 4] = [b"A", b"B", b"C", b""];
-    expect(classes.len() == 4, "four definitions")?;
-    for (index, name) in names.iter().enumerate() {
-        let stands = is_named(classes, index, name);
-        expect(stands, "a definition by its index")?;
-    }
-    expect(classes.def_at(4).is_none(), "no fifth definition")
-}
-
-// Reports whether the definition at an index has this name.
-fn is_named(classes: &Classes, index: usize, name: &[u8]) -> bool {
-    match classes.def_at(index) {
-        Some(def) => def.name.as_slice() == name,
-        None => false,
-    }
-}
-
 // Reports whether exactly these names are held, in this order.
 fn are(held: &Held, names: &[&[u8]]) -> bool {
     for (index, name) in names.iter().enumerate() {
@@ -195,9 +168,9 @@ fn two_options(alloc: Global) -> Result<OptionList, AllocError> {
     Ok(OptionList::own(options))
 }
 
-// Checks what that list says of its options.
-fn expect_two(list: &OptionList) -> Result<(), Fail> {
-    let [first, second] = list.as_slice() else {
+// Checks those options.
+fn expect_two(options: &[OptionData]) -> Result<(), Fail> {
+    let [first, second] = options else {
         return Err("two options".into());
     };
     expect((first.code, second.code) == (3, 6), "the codes")?;
@@ -207,8 +180,6 @@ fn expect_two(list: &OptionList) -> Result<(), Fail> {
 
 #[test]
 fn a_list_gives_its_options_back(rt: HostRuntime) -> Result<(), Fail> {
-    let list = two_options(rt.alloc())?;
-    expect_two(&list)?;
-    assert!(rt; list.into_vec().len() == 2);
-    Ok(())
+    let options = two_options(rt.alloc())?.into_vec();
+    expect_two(&options)
 }

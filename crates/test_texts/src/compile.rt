@@ -1,10 +1,7 @@
-use crate::support::{
-    DISCOVER, Fault, base_of, datagram, expect, is_written, outcome_over, run, typed_of,
-};
+use crate::support::{DISCOVER, Fault, datagram, expect, is_written, outcome_over, typed_of};
 use kd_compile::{CompileFault, compile};
 use kd_expr::{ExprFault, Typed};
-use kd_machine::{Held, Outcome};
-use kd_options::Message;
+use kd_machine::Outcome;
 use kd_token::Verified;
 use std::alloc::Global;
 use std::test::Fail;
@@ -58,65 +55,6 @@ fn expect_again(alloc: Global, bytes: &[u8]) -> Result<(), Fail> {
         expect(again == want, "the same call repeated")?;
     }
     Ok(())
-}
-
-// Class tests whose programs borrow every value, with the value and the steps of each over a
-// DISCOVER, and the length of its longest value.
-const BORROWING: [(&[u8], bool, u32, u32); 2] = [
-    (b"option[60].hex == 'a'", false, 3, 2),
-    (
-        b"substring(ifelse(option[61].exists, option[61].hex, pkt4.mac), 1, 2) == 0x0000",
-        true,
-        6,
-        6,
-    ),
-];
-
-// Whichever request for memory is refused, a run of such a program over a message that was read
-// is not affected.
-#[test]
-fn programs_that_borrow_every_value_take_no_memory(rt: HostRuntime) -> Result<(), Fail> {
-    let bytes = datagram(rt.alloc(), DISCOVER)?;
-    expect_over(rt.alloc(), &bytes)
-}
-
-// Checks such runs over the message in a datagram.
-fn expect_over(alloc: Global, bytes: &[u8]) -> Result<(), Fail> {
-    let message = Message::read(alloc, bytes)?;
-    expect_over_message(alloc, &message)
-}
-
-// Checks them over a message.
-fn expect_over_message(alloc: Global, message: &Message<'_>) -> Result<(), Fail> {
-    let held = base_of(alloc, message)?;
-    expect_runs(alloc, message, &held)
-}
-
-// Checks them over a message that has these names.
-fn expect_runs(alloc: Global, message: &Message<'_>, held: &Held) -> Result<(), Fail> {
-    for (text, value, steps, peak_length) in BORROWING {
-        let want = Outcome {
-            value,
-            steps,
-            peak_depth: 2,
-            peak_length,
-        };
-        expect_run(alloc, text, message, held, want)?;
-    }
-    Ok(())
-}
-
-// Checks the outcome of one of those class tests.
-fn expect_run(
-    alloc: Global,
-    text: &[u8],
-    message: &Message<'_>,
-    held: &Held,
-    want: Outcome,
-) -> Result<(), Fail> {
-    let program = program_of(alloc, text)?;
-    let found = run(alloc, &program, message, held);
-    expect(found == Ok(want), "the outcome of a program that borrows")
 }
 
 #[test]

@@ -1,5 +1,5 @@
 use crate::support::{Fault, expect, typed_of};
-use kd_expr::{Expr, ExprFault, Node, TypeFault, Typed, read, read_address, type_of};
+use kd_expr::{Expr, ExprFault, Node, TypeFault, Typed, read, type_of};
 use std::alloc::Global;
 use std::test::Fail;
 
@@ -87,24 +87,6 @@ fn an_expression_that_is_no_test_comes_back(rt: HostRuntime) -> Result<(), Fail>
         assert!(rt; is_refused_twice(read(rt.alloc(), text)?), "{text:?}");
     }
     Ok(())
-}
-
-#[test]
-fn addresses_are_four_small_numbers(rt: HostRuntime) {
-    let table: [(&[u8], Option<[u8; 4]>); 9] = [
-        (b"192.0.2.10", Some([192, 0, 2, 10])),
-        (b"010.000.00.1", Some([10, 0, 0, 1])),
-        (b"255.255.255.255", Some([255, 255, 255, 255])),
-        (b"256.0.0.1", None),
-        (b"1.2.3", None),
-        (b"1.2.3.4.", None),
-        (b"1.2.3.4 ", None),
-        (b"1.2.3.0004", None),
-        (b"", None),
-    ];
-    for (text, want) in table {
-        assert!(rt; read_address(text) == want, "{text:?}");
-    }
 }
 
 // A text with each kind of node that takes memory.

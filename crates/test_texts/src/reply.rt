@@ -64,10 +64,9 @@ fn ack(alloc: Global) -> Result<Reply, AllocError> {
 fn a_reply_fits_or_is_too_long(rt: HostRuntime) -> Result<(), Fail> {
     assert!(rt; WriteFault::TooLong.number() == 10);
     assert!(rt; is_written(rt.alloc(), WriteFault::TooLong, "TooLong")?);
+    assert!(rt; two_items(rt.alloc())?.into_vec().len() == 2);
     let reply = ack(rt.alloc())?;
-    expect_limit(rt.alloc(), &reply)?;
-    assert!(rt; reply.items.into_vec().len() == 2);
-    Ok(())
+    expect_limit(rt.alloc(), &reply)
 }
 
 // Checks the lengths that a reply of 346 bytes fits, and its options.

@@ -1,11 +1,8 @@
 use crate::support::{expect, is_written};
 use kd_token::{FileFault, Program, Token, VerifyFault, Version, Way, verify};
-use kd_wire::{Bytes, Field};
+use kd_wire::Field;
 use std::alloc::{AllocError, Global};
 use std::test::Fail;
-
-// Whether option 60 is "a".
-const SHORT: &[u8] = b"K4TK\x01\x00\x03\x02\x10\x00\x00\x00\x03\x03\x3c\x01\x00\x01\x61\x09";
 
 // Each opcode of version 2 once, and a name.
 const EACH: &[u8] = b"K4TK\x02\x04\x00\x40\xff\xff\x01\x02kd\x00\x1a\
@@ -38,12 +35,6 @@ fn are_each(tokens: &[Token]) -> bool {
         && matches!(tokens[21], Token::Branch(4))
 }
 
-// Reports whether a file's program is written back as that file.
-fn is_written_again(alloc: Global, file: &[u8]) -> Result<bool, FileFault> {
-    let program = Program::read(alloc, file)?;
-    Ok(has_file(alloc, &program, file)?)
-}
-
 // Reports whether a program is written as this file.
 fn has_file(alloc: Global, program: &Program, file: &[u8]) -> Result<bool, AllocError> {
     Ok(program.write(alloc)?.as_slice() == file)
@@ -51,43 +42,15 @@ fn has_file(alloc: Global, program: &Program, file: &[u8]) -> Result<bool, Alloc
 
 #[test]
 fn a_program_tells_its_parts_and_is_written_again(rt: HostRuntime) -> Result<(), Fail> {
-    for file in [EACH, SHORT, CHOICE] {
-        assert!(rt; is_written_again(rt.alloc(), file)?);
-    }
     let program = Program::read(rt.alloc(), EACH)?;
-    expect_parts(&program)
+    expect_parts(rt.alloc(), &program)
 }
 
-// Checks the parts of the program with each opcode.
-fn expect_parts(program: &Program) -> Result<(), Fail> {
+// Checks the parts of the program with each opcode, and that it is written as its file.
+fn expect_parts(alloc: Global, program: &Program) -> Result<(), Fail> {
     expect(declares_all(program), "what the program declares")?;
-    expect(are_each(program.tokens()), "its tokens")
-}
-
-#[test]
-fn a_file_at_its_limits_is_read_and_written(rt: HostRuntime) -> Result<(), Fail> {
-    let mut file = Vec::new(rt.alloc());
-    put_limits(&mut file)?;
-    let program = Program::read(rt.alloc(), &file)?;
-    expect_limits(rt.alloc(), &program, &file)
-}
-
-// Writes a file of 64 names and 1024 tokens at the end of an empty vector.
-fn put_limits(file: &mut Vec<u8>) -> Result<(), AllocError> {
-    file.extend_from_slice(b"K4TK\x01\x04\x00\x40\xff\xff\x40")?;
-    for i in 0..64u8 {
-        file.extend_from_slice(&[1, i])?;
-    }
-    file.extend_from_slice(b"\x04\x00")?;
-    file.resize(file.len() + 1024, 0x0a)
-}
-
-// Checks the program that is read from that file.
-fn expect_limits(alloc: Global, program: &Program, file: &[u8]) -> Result<(), Fail> {
-    expect(program.tokens().len() == 1024, "1024 tokens")?;
-    let is_last = matches!(program.name_at(63), Some(&[63]));
-    expect(is_last, "the last of 64 names")?;
-    expect(has_file(alloc, program, file)?, "the file written again")
+    expect(are_each(program.tokens()), "its tokens")?;
+    expect(has_file(alloc, program, EACH)?, "the file written again")
 }
 
 #[test]
@@ -102,28 +65,6 @@ fn a_token_tells_its_way(rt: HostRuntime) {
     for (token, want) in table {
         assert!(rt; token.way() == want);
     }
-}
-
-#[test]
-fn a_program_made_has_its_file(rt: HostRuntime) -> Result<(), Fail> {
-    assert!(rt; is_made(rt.alloc())?);
-    Ok(())
-}
-
-// Reports whether a program made by hand is written as its file.
-fn is_made(alloc: Global) -> Result<bool, AllocError> {
-    let program = made(alloc)?;
-    has_file(alloc, &program, SHORT)
-}
-
-// A program made by hand.
-fn made(alloc: Global) -> Result<Program, AllocError> {
-    let text = Bytes::own(Vec::from_slice(alloc, b"a")?);
-    let mut tokens = Vec::new(alloc);
-    tokens.push(Token::PushOption(60))?;
-    tokens.push(Token::PushBytes(text))?;
-    tokens.push(Token::Equal)?;
-    Ok(Program::new(Version::One, 3, 2, 4096, Vec::new(alloc), tokens))
 }
 
 // Returns the fault that the verifier reports for a file, if any, and whether its program was
