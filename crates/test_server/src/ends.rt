@@ -1,3 +1,4 @@
+use crate::support::expect;
 use kd_config::TokenFile;
 use kd_io::{InputFault, MOST_BYTES, read_file, token_files};
 use std::alloc::Global;
@@ -7,16 +8,25 @@ use std::{env, fs, process};
 
 // Makes a new folder for this test.
 fn folder(rt: &HostRuntime, test: &str) -> Result<String, Fail> {
-    let alloc = rt.alloc();
+    let path = folder_path(rt, test)?;
+    make_anew(rt, path.as_str())?;
+    Ok(path)
+}
+
+// Returns the path of the folder for a test.
+fn folder_path(rt: &HostRuntime, test: &str) -> Result<String, Fail> {
     let id = process::id(rt.process());
     let temp = env::temp_dir(rt)?;
     let within = temp.as_path().to_string_lossy();
-    let path = format!(in alloc; "{within}/test_server_{test}_{id}")?;
-    if fs::exists(rt, path.as_str())? {
-        fs::remove_dir_all(rt, path.as_str())?;
+    Ok(format!(in rt.alloc(); "{within}/test_server_{test}_{id}")?)
+}
+
+// Makes an empty folder at a path.
+fn make_anew(rt: &HostRuntime, path: &str) -> Result<(), Fail> {
+    if fs::exists(rt, path)? {
+        fs::remove_dir_all(rt, path)?;
     }
-    fs::create_dir(rt, path.as_str())?;
-    Ok(path)
+    Ok(fs::create_dir(rt, path)?)
 }
 
 // Returns the path of a name in a folder.
@@ -40,9 +50,14 @@ const LIMITS: [(usize, u32, bool); 7] = [
 fn is_read(rt: &HostRuntime, path: &str, length: usize, most: u32) -> Result<bool, Fail> {
     let mut bytes: Vec<u8> = Vec::new(rt.alloc());
     bytes.resize(length, 7)?;
-    fs::write(rt, path, bytes.as_slice())?;
+    is_read_back(rt, path, bytes.as_slice(), most)
+}
+
+// Does the same for a file of these bytes.
+fn is_read_back(rt: &HostRuntime, path: &str, bytes: &[u8], most: u32) -> Result<bool, Fail> {
+    fs::write(rt, path, bytes)?;
     match read_file(rt, path, most) {
-        Ok(read) => Ok(read == bytes),
+        Ok(read) => Ok(read.as_slice() == bytes),
         Err(InputFault::Read) => Ok(false),
         Err(InputFault::Memory) => Err("Memory".into()),
     }
@@ -51,31 +66,27 @@ fn is_read(rt: &HostRuntime, path: &str, length: usize, most: u32) -> Result<boo
 #[test]
 fn a_file_has_at_most_its_bytes(rt: HostRuntime) -> Result<(), Fail> {
     let folder = folder(&rt, "file")?;
-    let path = within(&rt, folder.as_str(), "a")?;
+    expect_limits(&rt, folder.as_str())
+}
+
+// Checks the limits of files in a folder, and removes it.
+fn expect_limits(rt: &HostRuntime, folder: &str) -> Result<(), Fail> {
+    expect_lengths(rt, folder)?;
+    Ok(fs::remove_dir_all(rt, folder)?)
+}
+
+// Checks the limits of files in a folder.
+fn expect_lengths(rt: &HostRuntime, folder: &str) -> Result<(), Fail> {
+    let path = within(rt, folder, "a")?;
+    expect_rows(rt, path.as_str())
+}
+
+// Checks the limits of the file at a path.
+fn expect_rows(rt: &HostRuntime, path: &str) -> Result<(), Fail> {
     for (length, most, fits) in LIMITS {
-        assert!(rt;
-            is_read(&rt, path.as_str(), length, most)? == fits,
-            "{length} of {most}"
-        );
+        let is_so = is_read(rt, path, length, most)? == fits;
+        expect(is_so, "whether a file of that length is read")?;
     }
-    fs::remove_dir_all(&rt, folder.as_str())?;
-    Ok(())
-}
-
-// Reports whether no file can be read at a path.
-fn is_unread(rt: &HostRuntime, path: &str) -> bool {
-    read_file(rt, path, MOST_BYTES).err() == Some(InputFault::Read)
-}
-
-#[test]
-fn what_is_no_file_is_not_read(rt: HostRuntime) -> Result<(), Fail> {
-    let folder = folder(&rt, "none")?;
-    let missing = within(&rt, folder.as_str(), "missing")?;
-    assert!(rt; is_unread(&rt, folder.as_str()));
-    assert!(rt; is_unread(&rt, missing.as_str()));
-    assert!(rt; is_unread(&rt, ""));
-    assert!(rt; token_files(&rt, missing.as_str()).err() == Some(InputFault::Read));
-    fs::remove_dir_all(&rt, folder.as_str())?;
     Ok(())
 }
 
@@ -97,9 +108,19 @@ fn row(alloc: Global, file: &TokenFile) -> Result<String, Fail> {
 // Returns the names and the bytes of a folder's token files, as a text of sorted rows.
 fn listed(rt: &HostRuntime, folder: &str) -> Result<String, Fail> {
     let files = token_files(rt, folder)?;
-    let mut rows = rows_of(rt.alloc(), &files)?;
+    sorted(rt.alloc(), &files)
+}
+
+// Returns token files as such a text.
+fn sorted(alloc: Global, files: &[TokenFile]) -> Result<String, Fail> {
+    let mut rows = rows_of(alloc, files)?;
+    joined(alloc, &mut rows)
+}
+
+// Returns rows as one text, sorted.
+fn joined(alloc: Global, rows: &mut Vec<String>) -> Result<String, Fail> {
     rows.sort()?;
-    Ok(rows.join(rt.alloc(), "")?)
+    Ok(rows.join(alloc, "")?)
 }
 
 // Returns the rows of token files.
@@ -157,19 +178,23 @@ fn fill(rt: &HostRuntime, folder: &str) -> Result<(), Fail> {
 #[test]
 fn token_files_are_those_of_the_name(rt: HostRuntime) -> Result<(), Fail> {
     let folder = folder(&rt, "tokens")?;
-    assert!(rt; listed(&rt, folder.as_str())?.is_empty());
-    fill(&rt, folder.as_str())?;
+    expect_tokens(&rt, folder.as_str())
+}
+
+// Checks the token files of an empty folder, and of the folder when it has those files; and removes
+// it.
+fn expect_tokens(rt: &HostRuntime, folder: &str) -> Result<(), Fail> {
+    expect(listed(rt, folder)?.is_empty(), "no token file")?;
+    fill(rt, folder)?;
     let want = ".k4tk=hidden;a.k4tk=one;b.k4tk=two;empty.k4tk=;link.k4tk=other;";
-    assert!(rt; listed(&rt, folder.as_str())?.as_str() == want);
-    fs::remove_dir_all(&rt, folder.as_str())?;
-    Ok(())
+    expect(listed(rt, folder)?.as_str() == want, "the token files")?;
+    Ok(fs::remove_dir_all(rt, folder)?)
 }
 
 // Returns how many token files a folder has when one has `length` bytes, or none if that is too
 // long.
 fn files_of(rt: &HostRuntime, folder: &str, length: u32) -> Result<Option<usize>, Fail> {
-    let path = within(rt, folder, "large.k4tk")?;
-    fs::create(rt, path.as_str())?.set_len(u64::from(length))?;
+    put_large(rt, folder, length)?;
     match token_files(rt, folder) {
         Ok(files) => Ok(Some(files.len())),
         Err(InputFault::Read) => Ok(None),
@@ -177,11 +202,23 @@ fn files_of(rt: &HostRuntime, folder: &str, length: u32) -> Result<Option<usize>
     }
 }
 
+// Makes a token file of `length` bytes in a folder.
+fn put_large(rt: &HostRuntime, folder: &str, length: u32) -> Result<(), Fail> {
+    let path = within(rt, folder, "large.k4tk")?;
+    Ok(fs::create(rt, path.as_str())?.set_len(u64::from(length))?)
+}
+
 #[test]
 fn a_token_file_over_the_limit_is_a_fault(rt: HostRuntime) -> Result<(), Fail> {
     let folder = folder(&rt, "large")?;
-    assert!(rt; files_of(&rt, folder.as_str(), MOST_BYTES)? == Some(1));
-    assert!(rt; files_of(&rt, folder.as_str(), MOST_BYTES + 1)?.is_none());
-    fs::remove_dir_all(&rt, folder.as_str())?;
-    Ok(())
+    expect_large(&rt, folder.as_str())
+}
+
+// Checks a token file of the most bytes and one of more in a folder, and removes it.
+fn expect_large(rt: &HostRuntime, folder: &str) -> Result<(), Fail> {
+    let fits = files_of(rt, folder, MOST_BYTES)? == Some(1);
+    expect(fits, "a token file of the most bytes")?;
+    let is_refused = files_of(rt, folder, MOST_BYTES + 1)?.is_none();
+    expect(is_refused, "a token file of more")?;
+    Ok(fs::remove_dir_all(rt, folder)?)
 }

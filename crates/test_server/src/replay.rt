@@ -4,7 +4,6 @@ use kd_event::Ports;
 use kd_replay::{ReplayFault, replay_bytes};
 use kd_server::{Server, replay};
 use std::alloc::{AllocError, Global};
-use std::process::Abort;
 use std::test::Fail;
 use test_tables::Fused;
 
@@ -60,11 +59,31 @@ fn printed(alloc: Global, handled: Result<u64, ReplayFault>) -> Result<String, A
     }
 }
 
+// Reports whether a replay has this result.
+fn is_result(
+    alloc: Global,
+    handled: Result<u64, ReplayFault>,
+    want: &str,
+) -> Result<bool, AllocError> {
+    let found = printed(alloc, handled)?;
+    Ok(found.as_str() == want)
+}
+
+// Reports whether a replay has this result, and has written this.
+fn is_end(
+    alloc: Global,
+    handled: Result<u64, ReplayFault>,
+    written: &[u8],
+    want: &str,
+    output: &str,
+) -> Result<bool, Fail> {
+    Ok(is_result(alloc, handled, want)? && written == output.as_bytes())
+}
+
 // Reports whether a replay of an input has this result and writes this.
 fn ends_as(alloc: Global, input: &str, ends: Ends, want: &str, output: &str) -> Result<bool, Fail> {
     let (result, sink) = replayed(alloc, input, ends)?;
-    let found = printed(alloc, result)?;
-    Ok(found.as_str() == want && sink.as_slice() == output.as_bytes())
+    is_end(alloc, result, sink.as_slice(), want, output)
 }
 
 // An input and its ends, the result, and what is written.
@@ -111,7 +130,7 @@ fn a_replay_ends_as_its_ends_do(rt: HostRuntime) -> Result<(), Fail> {
 // call.
 fn answers(alloc: Global, input: &str, step: usize, want: &str) -> Result<bool, Fail> {
     let (result, _) = replayed(alloc, input, (step, false, 1000))?;
-    Ok(printed(alloc, result)?.as_str() == want)
+    Ok(is_result(alloc, result, want)?)
 }
 
 // Inputs, and the result of a replay of each.
@@ -142,9 +161,14 @@ fn lines_are_found_in_pieces(rt: HostRuntime) -> Result<(), Fail> {
 
 // Reports whether a replay of a line with `count` digits has this result.
 fn answers_long(alloc: Global, count: usize, step: usize, want: &str) -> Result<bool, Fail> {
-    let zeros = "0".repeat(alloc, count)?;
-    let input = format!(in alloc; "5 {zeros}\n")?;
+    let input = long_line(alloc, count)?;
     answers(alloc, input.as_str(), step, want)
+}
+
+// Makes a line with this many digits.
+fn long_line(alloc: Global, count: usize) -> Result<String, AllocError> {
+    let zeros = "0".repeat(alloc, count)?;
+    format!(in alloc; "5 {zeros}\n")
 }
 
 // Numbers of digits of a line's datagram, and the result of a replay of the line.
@@ -190,10 +214,15 @@ fn is_right(end: &Result<u64, ReplayFault>, sink: &Keeping) -> bool {
 // the same replay repeated gives the same as with enough memory.
 #[test]
 fn want_of_memory_is_answered_as_such(rt: HostRuntime) -> Result<(), Fail> {
-    let (result, sink) = replayed(rt.alloc(), "5 \n6 00\n", (1000, false, 1000))?;
-    assert!(rt; is_right(&result, &sink));
+    assert!(rt; is_right_first(rt.alloc())?);
     assert!(rt; answers(rt.alloc(), "5 \n6 00\n", 1000, "2")?);
     Ok(())
+}
+
+// Reports whether a replay of the two ends as it should.
+fn is_right_first(alloc: Global) -> Result<bool, Fail> {
+    let (result, sink) = replayed(alloc, "5 \n6 00\n", (1000, false, 1000))?;
+    Ok(is_right(&result, &sink))
 }
 
 // Replays bytes that are held in memory, and finds the lines and the result.
@@ -224,25 +253,16 @@ const HELD: [(&str, &str, &str); 4] = [
     ("", "0", ""),
 ];
 
-// Checks that bytes replay with this result, to these lines.
-fn expect_held(
-    rt: &impl Abort,
-    alloc: Global,
-    input: &str,
-    want: &str,
-    output: &str,
-) -> Result<(), Fail> {
-    let work = ReplaysHeld(input.as_bytes());
-    let (lines, result) = with_server(alloc, PORTS, work)?;
-    assert!(rt; printed(alloc, result)?.as_str() == want, "{input}");
-    assert!(rt; lines.as_slice() == output.as_bytes(), "{input}");
-    Ok(())
+// Reports whether bytes replay with this result, to these lines.
+fn is_held(alloc: Global, input: &str, want: &str, output: &str) -> Result<bool, Fail> {
+    let (lines, result) = with_server(alloc, PORTS, ReplaysHeld(input.as_bytes()))?;
+    is_end(alloc, result, lines.as_slice(), want, output)
 }
 
 #[test]
 fn bytes_that_are_held_replay_to_their_lines(rt: HostRuntime) -> Result<(), Fail> {
     for (input, want, output) in HELD {
-        expect_held(&rt, rt.alloc(), input, want, output)?;
+        assert!(rt; is_held(rt.alloc(), input, want, output)?, "{input}");
     }
     Ok(())
 }

@@ -1,6 +1,6 @@
-use crate::support::{COOKIE, Work, look_at, server_of, with_server};
+use crate::support::{Work, datagram, look_at, server_of, with_server};
 use kd_config::Config;
-use kd_event::{Destination, Event, Mode, Ports, Reason, Response};
+use kd_event::{Event, Handled, Ports, Reason, Response};
 use kd_replay::ServeFault;
 use kd_server::Server;
 use kd_wire::Bytes;
@@ -8,74 +8,15 @@ use std::alloc::{AllocError, Global};
 use std::test::Fail;
 use test_tables::Fused;
 
-// Nonstandard ports.
+// The ports of a server.
 const PORTS: Ports = Ports {
-    server: 1067,
-    client: 1068,
+    server: 67,
+    client: 68,
 };
 
-// Makes an INFORM from 192.0.2.77, through this relay.
-fn inform(alloc: Global, relay: &[u8; 4]) -> Result<Vec<u8>, AllocError> {
-    let mut bytes = Vec::from_slice(alloc, &[1, 1, 6, 0, 0, 0, 0, 1, 0, 0, 0, 0])?;
-    bytes.extend_from_slice(&[192, 0, 2, 77])?;
-    bytes.resize(24, 0)?;
-    bytes.extend_from_slice(relay)?;
-    bytes.extend_from_slice(b"\x0a\x00\x00\x00\x00\x01")?;
-    bytes.resize(236, 0)?;
-    bytes.extend_from_slice(&COOKIE)?;
-    bytes.extend_from_slice(b"\x35\x01\x08\xff")?;
-    Ok(bytes)
-}
-
-// Returns where the reply to an INFORM through a relay goes, and the time at which it was handled.
-fn sent(
-    alloc: Global,
-    server: &mut Server<Fused>,
-    relay: &[u8; 4],
-) -> Result<(u64, Destination), Fail> {
-    let bytes = inform(alloc, relay)?;
-    let handled = server.handle(1000, bytes.as_slice())?;
-    match handled.response {
-        Response::Reply(destination, _) => Ok((handled.now, destination)),
-        Response::Quiet(_) => Err("no reply".into()),
-    }
-}
-
-// Relays, and where replies then go.
-const WAYS: [([u8; 4], Destination); 2] = [
-    (
-        [0, 0, 0, 0],
-        Destination {
-            mode: Mode::Unicast,
-            address: 0xc000_024d,
-            port: 1068,
-        },
-    ),
-    (
-        [192, 0, 2, 254],
-        Destination {
-            mode: Mode::Relay,
-            address: 0xc000_02fe,
-            port: 1067,
-        },
-    ),
-];
-
-// Finds whether replies are sent that way.
-#[derive(Drop)]
-struct Sends;
-
-impl Work for Sends {
-    type Found = bool;
-
-    fn done(self, alloc: Global, server: &mut Server<Fused>) -> Result<bool, Fail> {
-        for (relay, destination) in WAYS {
-            if sent(alloc, server, &relay)? != (1000, destination) {
-                return Ok(false);
-            }
-        }
-        Ok(true)
-    }
+// Makes an INFORM from 192.0.2.77.
+fn inform(alloc: Global) -> Result<Vec<u8>, AllocError> {
+    datagram(alloc, 1, [192, 0, 2, 77], 8)
 }
 
 // Reports whether a server returns its configuration when it is closed.
@@ -98,8 +39,7 @@ fn is_given_back(closed: &(Config, Fused)) -> bool {
 }
 
 #[test]
-fn a_server_has_its_ports_and_gives_its_configuration_back(rt: HostRuntime) -> Result<(), Fail> {
-    assert!(rt; with_server(rt.alloc(), PORTS, Sends)?);
+fn a_server_gives_its_configuration_back(rt: HostRuntime) -> Result<(), Fail> {
     assert!(rt; gives_back(rt.alloc())?);
     Ok(())
 }
@@ -131,11 +71,17 @@ fn run(server: &mut Server<Fused>, events: &[Event]) -> (usize, Option<ServeFaul
 // Makes an INFORM at time 1, and datagrams without bytes at these times.
 fn events(alloc: Global, moments: &[u64]) -> Result<Vec<Event>, AllocError> {
     let mut events = Vec::new(alloc);
-    events.push(event(1, inform(alloc, &[0; 4])?))?;
+    put_events(alloc, &mut events, moments)?;
+    Ok(events)
+}
+
+// Adds them at the end of a list.
+fn put_events(alloc: Global, events: &mut Vec<Event>, moments: &[u64]) -> Result<(), AllocError> {
+    events.push(event(1, inform(alloc)?))?;
     for moment in moments {
         events.push(event(*moment, Vec::new(alloc)))?;
     }
-    Ok(events)
+    Ok(())
 }
 
 // Reports whether this many events of such a list are handled, followed by this fault.
@@ -171,12 +117,22 @@ fn a_run_ends_at_the_first_fault(rt: HostRuntime) -> Result<(), Fail> {
     Ok(())
 }
 
-// Reports whether an INFORM is answered, or memory was refused.
-fn is_answered(alloc: Global, server: &mut Server<Fused>) -> Result<bool, Fail> {
-    let bytes = inform(alloc, &[0; 4])?;
-    match server.handle(5, bytes.as_slice()) {
-        Ok(handled) => Ok(matches!(handled.response, Response::Reply(..))),
-        Err(fault) => Ok(fault == ServeFault::Memory),
+// Returns the time at which the answer to an INFORM was handled.
+fn handled(
+    alloc: Global,
+    server: &mut Server<Fused>,
+    moment: u64,
+) -> Result<Option<u64>, ServeFault> {
+    let bytes = inform(alloc)?;
+    let handled = server.handle(moment, bytes.as_slice())?;
+    Ok(answered(&handled))
+}
+
+// Returns the time at which an event was handled that is answered.
+fn answered(handled: &Handled) -> Option<u64> {
+    match handled.response {
+        Response::Reply(..) => Some(handled.now),
+        Response::Quiet(_) => None,
     }
 }
 
@@ -188,26 +144,29 @@ fn runs_twice(server: &mut Server<Fused>, events: &[Event]) -> bool {
     is_right && run(server, events) == (1, None)
 }
 
+// Reports whether an INFORM is answered, or memory was refused; and is answered when it comes again.
+fn answers_twice(alloc: Global, server: &mut Server<Fused>) -> Result<bool, Fail> {
+    let first = handled(alloc, server, 5);
+    let is_right = first == Err(ServeFault::Memory) || first == Ok(Some(5));
+    Ok(is_right && handled(alloc, server, 1_000)? == Some(1_000))
+}
+
 // Finds whether a run and an event report out of memory when it is refused, and the same call
 // repeated gives the same as with enough memory.
 #[derive(Drop)]
-struct RunsTwice;
+struct Twice;
 
-impl Work for RunsTwice {
+impl Work for Twice {
     type Found = bool;
 
     fn done(self, alloc: Global, server: &mut Server<Fused>) -> Result<bool, Fail> {
         let events = events(alloc, &[])?;
-        Ok(
-            runs_twice(server, &events)
-                && is_answered(alloc, server)?
-                && sent(alloc, server, &[0; 4])?.0 == 1000,
-        )
+        Ok(runs_twice(server, &events) && answers_twice(alloc, server)?)
     }
 }
 
 #[test]
 fn want_of_memory_is_answered_as_such(rt: HostRuntime) -> Result<(), Fail> {
-    assert!(rt; with_server(rt.alloc(), PORTS, RunsTwice)?);
+    assert!(rt; with_server(rt.alloc(), PORTS, Twice)?);
     Ok(())
 }

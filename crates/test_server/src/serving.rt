@@ -2,13 +2,12 @@
 ghost use Rattle.std.specs.Prelude.{◌≡◌, ◌<◌, ◌≤◌, IfOk, IfSome, false, length};
 
 use crate::doubles::Keeping;
-use crate::support::{COOKIE, Work, with_server, with_server_of};
+use crate::support::{Work, datagram, with_server, with_server_of};
 use kd_config::Config;
 use kd_event::{Destination, Event, Ports};
 use kd_io::{Sending, Socket};
 use kd_replay::{
-    EndFailed, Happening, Limits, Link, LoopFault, ServeFault, ServedBytes, replay_bytes,
-    serve_bytes,
+    EndFailed, Happening, Limits, Link, LoopFault, ServeFault, ServedBytes, serve_bytes,
 };
 use kd_server::{Server, serve};
 use kd_wire::Bytes;
@@ -45,13 +44,7 @@ fn limits(most: usize, count: u64) -> Limits
 
 // Makes the DISCOVER of the client 0a00000000 with this last byte.
 fn discover(alloc: Global, client: u8) -> Result<Vec<u8>, AllocError> {
-    let mut bytes = Vec::from_slice(alloc, &[1, 1, 6, 0, 0, 0, 0, 1])?;
-    bytes.resize(28, 0)?;
-    bytes.extend_from_slice(&[10, 0, 0, 0, 0, client])?;
-    bytes.resize(236, 0)?;
-    bytes.extend_from_slice(&COOKIE)?;
-    bytes.extend_from_slice(b"\x35\x01\x01\xff")?;
-    Ok(bytes)
+    datagram(alloc, client, [0; 4], 1)
 }
 
 // Returns the line of a reply that offers the first address of the pool, if these bytes are one.
@@ -70,9 +63,14 @@ fn offer_line(alloc: Global, reply: &[u8]) -> Result<String, Fail> {
 // Opens a socket on a free port of loopback that waits ten seconds for a datagram.
 fn bound(rt: &HostRuntime) -> Result<(UdpSocket, SocketAddr), Fail> {
     let socket = UdpSocket::bind(rt, ("127.0.0.1", 0))?;
-    socket.set_read_timeout(Some(Duration::from_secs(10)))?;
-    let address = socket.local_addr()?;
+    let address = address_of(&socket)?;
     Ok((socket, address))
+}
+
+// Has a socket wait ten seconds for a datagram, and returns its address.
+fn address_of(socket: &UdpSocket) -> Result<SocketAddr, Fail> {
+    socket.set_read_timeout(Some(Duration::from_secs(10)))?;
+    Ok(socket.local_addr()?)
 }
 
 // Reports whether these lines are for this OFFER and for a datagram that is not a message, at times
@@ -123,13 +121,23 @@ fn is_told(
 
 #[test]
 fn two_datagrams_are_served_over_a_socket(rt: HostRuntime) -> Result<(), Fail> {
-    let (socket, address) = bound(&rt)?;
     let (client, _) = bound(&rt)?;
-    send(rt.alloc(), &client, address)?;
-    let work = Two { rt: &rt, socket };
-    let sink = with_server(rt.alloc(), PORTS, work)?;
-    assert!(rt; is_told(rt.alloc(), &client, address, sink.as_slice())?);
+    assert!(rt; is_served(&rt, &client)?);
     Ok(())
+}
+
+// Reports whether a client's socket receives the reply that is told of.
+fn is_served(rt: &HostRuntime, client: &UdpSocket) -> Result<bool, Fail> {
+    let (socket, address) = waited_at(rt, client)?;
+    let sink = with_server(rt.alloc(), PORTS, Two { rt, socket })?;
+    is_told(rt.alloc(), client, address, sink.as_slice())
+}
+
+// Opens a socket at which a client's two datagrams are waiting.
+fn waited_at(rt: &HostRuntime, client: &UdpSocket) -> Result<(UdpSocket, SocketAddr), Fail> {
+    let (socket, address) = bound(rt)?;
+    send(rt.alloc(), client, address)?;
+    Ok((socket, address))
 }
 
 // Sends a DISCOVER and a datagram that is not a message.
@@ -140,13 +148,12 @@ fn send(alloc: Global, client: &UdpSocket, address: SocketAddr) -> Result<(), Fa
     Ok(())
 }
 
-// A link that delivers a DISCOVER a number of times and then fails, and keeps the last reply; none
-// is sent if it loses them. Its clock jumps with each datagram, and so does its steady clock.
+// A link that delivers a DISCOVER a number of times and then fails, and keeps the last reply. Its
+// clock jumps with each datagram, and so does its steady clock.
 #[derive(Drop)]
 struct Wired {
     discover: Vec<u8>,
     left: u64,
-    loses: bool,
     moment: u64,
     jump: u64,
     counted: u64,
@@ -156,13 +163,12 @@ struct Wired {
 }
 
 impl Wired {
-    fn new(alloc: Global, left: u64, loses: bool) -> Result<Wired, AllocError>
+    fn new(alloc: Global, left: u64) -> Result<Wired, AllocError>
         ensures { IfOk result (λ link. link.failed ≡ false) }
     {
         Ok(Wired {
             discover: discover(alloc, 1)?,
             left,
-            loses,
             moment: 100,
             jump: 0,
             counted: 0,
@@ -223,8 +229,8 @@ impl Link for Wired {
     fn send(&mut self, bytes: &[u8], _to: Destination) -> Result<(), EndFailed> {
         self.reply.clear();
         match self.reply.extend_from_slice(bytes) {
-            Ok(()) if !self.loses => Ok(()),
-            _ => Err(EndFailed),
+            Ok(()) => Ok(()),
+            Err(_) => Err(EndFailed),
         }
     }
 }
@@ -247,63 +253,45 @@ fn served_by<L: Link>(
 // How serving ends, what was written, and the last reply.
 type Shown = (Result<(), LoopFault>, Keeping, Vec<u8>);
 
-// Serves three datagrams when two arrive, and finds how that ends, what was written up to `until`
-// bytes, and the last reply.
+// Serves two DISCOVERs, of whose lines 700 bytes are written, and finds how that ends, what was
+// written, and the last reply.
 #[derive(Drop)]
-struct Three {
-    loses: bool,
-    until: usize,
-}
+struct Cut;
 
-impl Work for Three {
+impl Work for Cut {
     type Found = Shown;
 
     fn done(self, alloc: Global, server: &mut Server<Fused>) -> Result<Shown, Fail> {
-        let Three { loses, until } = self;
-        let mut link = Wired::new(alloc, 2, loses)?;
-        let mut sink = Keeping::new(alloc, usize::MAX, until);
+        let mut link = Wired::new(alloc, 2)?;
+        let mut sink = Keeping::new(alloc, usize::MAX, 700);
         let result = served_by(&mut link, &mut sink, server, alloc, limits(2, 3));
         let Wired { reply, .. } = link;
         Ok((result, sink, reply))
     }
 }
 
-#[test]
-fn serving_ends_where_nothing_is_received_and_tells_of_lost_replies(
-    rt: HostRuntime,
-) -> Result<(), Fail> {
-    let alloc = rt.alloc();
-    let (loses, until) = (true, usize::MAX);
-    let served = with_server(alloc, PORTS, Three { loses, until })?;
-    expect_losses(&rt, alloc, &served)
-}
-
-// Checks that serving ends because nothing is received, and tells of two lost replies.
-fn expect_losses(rt: &impl Abort, alloc: Global, served: &Shown) -> Result<(), Fail> {
-    let (result, sink, reply) = served;
-    assert!(rt; *result == Err(LoopFault::Read));
-    let line = offer_line(alloc, reply.as_slice())?;
-    let wanted = format!(in alloc; "{line}fault 99 Send\n{line}fault 99 Send\n")?;
-    assert!(rt; sink.as_slice() == wanted.as_bytes());
-    Ok(())
+// Reports whether 700 bytes were written, which are a line and the front of the same line.
+fn is_cut(line: &[u8], written: &[u8]) -> bool {
+    match written.get(line.len()..) {
+        Some(rest) => {
+            written.len() == 700 && written.starts_with(line) && line.starts_with(rest)
+        }
+        None => false,
+    }
 }
 
 #[test]
 fn serving_ends_where_a_line_is_not_written(rt: HostRuntime) -> Result<(), Fail> {
-    let alloc = rt.alloc();
-    let (loses, until) = (false, 700);
-    let served = with_server(alloc, PORTS, Three { loses, until })?;
-    expect_cut(&rt, alloc, &served)
+    let served = with_server(rt.alloc(), PORTS, Cut)?;
+    expect_cut(&rt, rt.alloc(), &served)
 }
 
-// Checks that serving ends because a line is not written, after 700 bytes of two lines.
+// Checks that serving ends because a line is not written.
 fn expect_cut(rt: &impl Abort, alloc: Global, served: &Shown) -> Result<(), Fail> {
     let (result, sink, reply) = served;
     assert!(rt; *result == Err(LoopFault::Write));
     let line = offer_line(alloc, reply.as_slice())?;
-    let wanted = format!(in alloc; "{line}{line}")?;
-    let written = sink.as_slice();
-    assert!(rt; written.len() == 700 && wanted.as_bytes().starts_with(written));
+    assert!(rt; is_cut(line.as_bytes(), sink.as_slice()));
     Ok(())
 }
 
@@ -315,11 +303,27 @@ const WIDE: &[u8] =
 // Makes a socket at which the DISCOVERs of `clients` clients are waiting.
 fn crowded(rt: &HostRuntime, clients: u8) -> Result<UdpSocket, Fail> {
     let (socket, address) = bound(rt)?;
-    let (client, _) = bound(rt)?;
-    for number in 0..clients {
-        client.send_to(discover(rt.alloc(), number)?.as_slice(), address)?;
-    }
+    send_crowd(rt, address, clients)?;
     Ok(socket)
+}
+
+// Sends the DISCOVERs of `clients` clients to an address.
+fn send_crowd(rt: &HostRuntime, address: SocketAddr, clients: u8) -> Result<(), Fail> {
+    let (client, _) = bound(rt)?;
+    send_each(rt.alloc(), &client, address, clients)
+}
+
+// Sends them from a socket.
+fn send_each(
+    alloc: Global,
+    client: &UdpSocket,
+    address: SocketAddr,
+    clients: u8,
+) -> Result<(), Fail> {
+    for number in 0..clients {
+        client.send_to(discover(alloc, number)?.as_slice(), address)?;
+    }
+    Ok(())
 }
 
 // Returns the number of lines.
@@ -435,11 +439,17 @@ fn tell(text: &mut String, happening: &Happening) -> Result<(), AllocError> {
 
 // Makes three events: two DISCOVERs, and between them a datagram that cannot be read as a message.
 fn input(alloc: Global) -> Result<Vec<Event>, AllocError> {
-    let mut events = Vec::with_capacity(alloc, 3)?;
+    let mut events = Vec::new(alloc);
+    put_input(alloc, &mut events)?;
+    Ok(events)
+}
+
+// Adds those events at the end of a list.
+fn put_input(alloc: Global, events: &mut Vec<Event>) -> Result<(), AllocError> {
     events.push(discovered(alloc, 100, 1)?)?;
     events.push(unreadable(alloc)?)?;
     events.push(discovered(alloc, 300, 2)?)?;
-    Ok(events)
+    Ok(())
 }
 
 // Makes a datagram of one byte at time 110.
@@ -467,11 +477,27 @@ impl Work for Served {
     }
 }
 
+// What the first of their lines begins with.
+const FIRST_LINE: &[u8] = b"100 reply hardware 192.0.2.10:68 02";
+
 // Returns the record of them.
 fn record(alloc: Global) -> Result<String, AllocError> {
-    let first = hex::encode(alloc, discover(alloc, 1)?.as_slice())?;
-    let last = hex::encode(alloc, discover(alloc, 2)?.as_slice())?;
-    format!(in alloc; "100 {first}\n110 0a\n300 {last}\n")
+    let mut text = String::new(alloc);
+    put_record(alloc, &mut text)?;
+    Ok(text)
+}
+
+// Writes that record at the end of a text.
+fn put_record(alloc: Global, text: &mut String) -> Result<(), AllocError> {
+    put_line(alloc, text, 100, 1)?;
+    text.push_str("110 0a\n")?;
+    put_line(alloc, text, 300, 2)
+}
+
+// Writes the line of the DISCOVER of a client at a time.
+fn put_line(alloc: Global, text: &mut String, moment: u64, client: u8) -> Result<(), AllocError> {
+    let digits = hex::encode(alloc, discover(alloc, client)?)?;
+    write!(text, "{moment} {digits}\n")
 }
 
 // There are two batches, of two events and of one. Both clocks are read at the start and after each
@@ -491,38 +517,8 @@ fn expect_order(rt: &impl Abort, alloc: Global, served: &ServedBytes) -> Result<
         waited for 244\nsaid 300\nsaid 300\npassed 300\nwent 11\n";
     assert!(rt; told(alloc, served.log.as_slice())?.as_str() == wanted);
     assert!(rt; served.journal.as_slice() == record(alloc)?.as_bytes());
-    Ok(())
-}
-
-// Finds whether a record of three events replays to these lines.
-#[derive(Drop)]
-struct Replays<'a> {
-    journal: &'a [u8],
-    lines: &'a [u8],
-}
-
-impl<'a> Work for Replays<'a> {
-    type Found = bool;
-
-    fn done(self, alloc: Global, server: &mut Server<Fused>) -> Result<bool, Fail> {
-        let (lines, done) = replay_bytes(alloc, self.journal, server);
-        Ok(done == Ok(3) && lines.as_slice() == self.lines)
-    }
-}
-
-// The record replays to the lines that were written.
-#[test]
-fn what_is_recorded_replays_to_what_was_written(rt: HostRuntime) -> Result<(), Fail> {
-    let served = with_server(rt.alloc(), PORTS, Served)?;
-    expect_replay(&rt, rt.alloc(), &served)
-}
-
-// Checks that the record replays to the lines, which begin with a reply.
-fn expect_replay(rt: &impl Abort, alloc: Global, served: &ServedBytes) -> Result<(), Fail> {
     let lines = served.lines.as_slice();
-    assert!(rt; lines.starts_with(b"100 reply hardware 192.0.2.10:68 02"));
-    let journal = served.journal.as_slice();
-    assert!(rt; with_server(alloc, PORTS, Replays { journal, lines })?);
+    assert!(rt; lines_of(lines) == 3 && lines.starts_with(FIRST_LINE));
     Ok(())
 }
 
@@ -536,7 +532,7 @@ fn ended(
     jump: u64,
     passes: u64,
 ) -> Result<Result<(), LoopFault>, AllocError> {
-    let mut link = Wired::new(alloc, 1, false)?;
+    let mut link = Wired::new(alloc, 1)?;
     link.moment = moment;
     link.jump = jump;
     link.passes = passes;
@@ -550,8 +546,11 @@ fn ended(
 }
 
 // The time at the start, the seconds by which the clock jumps, those that the steady clock counts,
-// and whether that is ahead, without leases.
-const JUMPS: [(u64, u64, u64, bool); 8] = [
+// and whether that is ahead.
+type Jump = (u64, u64, u64, bool);
+
+// Such jumps without leases.
+const JUMPS: [Jump; 8] = [
     (1_000, 50, 0, false),
     (1_000, 51, 0, true),
     (1_000, 51, 1, false),
@@ -562,41 +561,10 @@ const JUMPS: [(u64, u64, u64, bool); 8] = [
     (0, 51, 0, true),
 ];
 
-// Reports whether serving ends because the clock is ahead, or well, as expected.
-fn is_end(end: &Result<(), LoopFault>, is_ahead: bool) -> bool {
-    match end {
-        Ok(()) => !is_ahead,
-        Err(fault) => is_ahead && *fault == LoopFault::Ahead,
-    }
-}
-
-// Finds whether serving without leases ends this way.
-#[derive(Drop)]
-struct Jumps((u64, u64, u64, bool));
-
-impl Work for Jumps {
-    type Found = bool;
-
-    fn done(self, alloc: Global, server: &mut Server<Fused>) -> Result<bool, Fail> {
-        let (moment, jump, passes, is_ahead) = self.0;
-        let end = ended(alloc, server, moment, jump, passes)?;
-        Ok(is_end(&end, is_ahead))
-    }
-}
-
-#[test]
-fn serving_ends_where_the_clock_jumps_ahead(rt: HostRuntime) -> Result<(), Fail> {
-    for row in JUMPS {
-        let is_so = with_server(rt.alloc(), PORTS, Jumps(row))?;
-        assert!(rt; is_so, "{} {} {}", row.0, row.1, row.2);
-    }
-    Ok(())
-}
-
 // The same with an offer that was made at time 1,000: the clock may be 50 seconds behind it at the
 // start; if the clock was set back, it is not ahead until it is more than 50 seconds after the
 // offer.
-const SETS_BACK: [(u64, u64, u64, bool); 6] = [
+const SETS_BACK: [Jump; 6] = [
     (949, 0, 0, true),
     (950, 0, 0, false),
     (960, 90, 0, false),
@@ -605,26 +573,47 @@ const SETS_BACK: [(u64, u64, u64, bool); 6] = [
     (960, 50, 0, false),
 ];
 
-// Finds whether serving with that offer ends this way.
-#[derive(Drop)]
-struct SetsBack((u64, u64, u64, bool));
-
-impl Work for SetsBack {
-    type Found = bool;
-
-    fn done(self, alloc: Global, server: &mut Server<Fused>) -> Result<bool, Fail> {
-        let (moment, jump, passes, is_ahead) = self.0;
-        let first = ended(alloc, server, 1_000, 0, 0)?;
-        let end = ended(alloc, server, moment, jump, passes)?;
-        Ok(first == Ok(()) && is_end(&end, is_ahead))
+// Reports whether serving ends because the clock is ahead, or well, as expected.
+fn is_end(end: &Result<(), LoopFault>, is_ahead: bool) -> bool {
+    match end {
+        Ok(()) => !is_ahead,
+        Err(fault) => is_ahead && *fault == LoopFault::Ahead,
     }
 }
 
-#[test]
-fn the_clock_is_measured_at_the_latest_change(rt: HostRuntime) -> Result<(), Fail> {
-    for row in SETS_BACK {
-        let is_so = with_server(rt.alloc(), PORTS, SetsBack(row))?;
+// Finds whether serving ends this way, after an offer at time 1,000 or without leases.
+#[derive(Drop)]
+struct Jumps {
+    row: Jump,
+    offers: bool,
+}
+
+impl Work for Jumps {
+    type Found = bool;
+
+    fn done(self, alloc: Global, server: &mut Server<Fused>) -> Result<bool, Fail> {
+        let Jumps { row, offers } = self;
+        let (moment, jump, passes, is_ahead) = row;
+        if offers && ended(alloc, server, 1_000, 0, 0)? != Ok(()) {
+            return Ok(false);
+        }
+        let end = ended(alloc, server, moment, jump, passes)?;
+        Ok(is_end(&end, is_ahead))
+    }
+}
+
+// Checks how serving ends with each of these jumps.
+fn expect_jumps(rt: &impl Abort, alloc: Global, rows: &[Jump], offers: bool) -> Result<(), Fail> {
+    for row in rows {
+        let is_so = with_server(alloc, PORTS, Jumps { row: *row, offers })?;
         assert!(rt; is_so, "{} {} {}", row.0, row.1, row.2);
     }
     Ok(())
+}
+
+// The clock is measured at the latest change.
+#[test]
+fn serving_ends_where_the_clock_jumps_ahead(rt: HostRuntime) -> Result<(), Fail> {
+    expect_jumps(&rt, rt.alloc(), &JUMPS, false)?;
+    expect_jumps(&rt, rt.alloc(), &SETS_BACK, true)
 }

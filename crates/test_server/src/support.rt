@@ -7,8 +7,37 @@ use std::alloc::{AllocError, Global};
 use std::test::Fail;
 use test_tables::Fused;
 
-/// The bytes 236 to 239 of a datagram.
-pub(crate) const COOKIE: [u8; 4] = [99, 130, 83, 99];
+// The bytes 236 to 239 of a datagram.
+const COOKIE: [u8; 4] = [99, 130, 83, 99];
+
+/// Makes a message of a type from the client 0a00000000 with this last byte, which says this
+/// address.
+pub(crate) fn datagram(
+    alloc: Global,
+    client: u8,
+    ciaddr: [u8; 4],
+    kind: u8,
+) -> Result<Vec<u8>, AllocError> {
+    let mut bytes = Vec::new(alloc);
+    put_datagram(&mut bytes, client, ciaddr, kind)?;
+    Ok(bytes)
+}
+
+// Writes that message at the end of an empty vector.
+fn put_datagram(
+    bytes: &mut Vec<u8>,
+    client: u8,
+    ciaddr: [u8; 4],
+    kind: u8,
+) -> Result<(), AllocError> {
+    bytes.extend_from_slice(&[1, 1, 6, 0, 0, 0, 0, 1, 0, 0, 0, 0])?;
+    bytes.extend_from_slice(&ciaddr)?;
+    bytes.resize(28, 0)?;
+    bytes.extend_from_slice(&[10, 0, 0, 0, 0, client])?;
+    bytes.resize(236, 0)?;
+    bytes.extend_from_slice(&COOKIE)?;
+    bytes.extend_from_slice(&[53, 1, kind, 255])
+}
 
 /// Returns what a look at a value finds, if it was made. Code that holds a configuration or a server
 /// is proved against all their parts; this and `act_on` are proved for any value, and what they call
@@ -36,6 +65,11 @@ fn act_on<V: Drop, T: Drop, F: FnOnce(&mut V) -> Result<T, Fail>>(
         Ok(mut value) => action(&mut value),
         Err(fault) => Err(fault.into()),
     }
+}
+
+/// Fails a test, naming what does not hold.
+pub(crate) fn expect(holds: bool, what: &str) -> Result<(), Fail> {
+    if holds { Ok(()) } else { Err(what.into()) }
 }
 
 /// Work with a server, which it borrows.
