@@ -126,10 +126,16 @@ fn joined(alloc: Global, rows: &mut Vec<String>) -> Result<String, Fail> {
 // Returns the rows of token files.
 fn rows_of(alloc: Global, files: &[TokenFile]) -> Result<Vec<String>, Fail> {
     let mut rows = Vec::new(alloc);
+    put_rows(alloc, &mut rows, files)?;
+    Ok(rows)
+}
+
+// Adds the rows of token files.
+fn put_rows(alloc: Global, rows: &mut Vec<String>, files: &[TokenFile]) -> Result<(), Fail> {
     for file in files {
         rows.push(row(alloc, file)?)?;
     }
-    Ok(rows)
+    Ok(())
 }
 
 // The names of files, and their texts.

@@ -6,15 +6,15 @@ use std::test::Fail;
 // Makes the arguments of a command line.
 fn owned(alloc: Global, words: &[&str]) -> Result<Vec<String>, AllocError> {
     let mut owned = Vec::new(alloc);
-    for word in words {
-        put_word(alloc, &mut owned, word)?;
-    }
+    put_words(alloc, &mut owned, words)?;
     Ok(owned)
 }
 
-// Adds an argument.
-fn put_word(alloc: Global, words: &mut Vec<String>, word: &str) -> Result<(), AllocError> {
-    words.push(String::from_str(alloc, word)?)?;
+// Adds arguments.
+fn put_words(alloc: Global, owned: &mut Vec<String>, words: &[&str]) -> Result<(), AllocError> {
+    for word in words {
+        owned.push(String::from_str(alloc, word)?)?;
+    }
     Ok(())
 }
 

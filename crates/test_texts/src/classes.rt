@@ -104,22 +104,25 @@ fn want_of_memory_is_answered_as_such(rt: HostRuntime) -> Result<(), Fail> {
     Ok(())
 }
 
-// Makes `count` definitions, each named by its number.
-fn numbered(alloc: Global, count: u16) -> Result<Vec<ClassDef>, AllocError> {
+// Makes `count` definitions, each named by its number, or each by 0.
+fn many(alloc: Global, count: u16, are_alike: bool) -> Result<Vec<ClassDef>, AllocError> {
     let mut list = Vec::new(alloc);
-    for number in 0..count {
-        define(alloc, &mut list, &number.to_be_bytes(), None)?;
-    }
+    define_many(alloc, &mut list, count, are_alike)?;
     Ok(list)
 }
 
-// Makes `count` definitions, each named A.
-fn alike(alloc: Global, count: u16) -> Result<Vec<ClassDef>, AllocError> {
-    let mut list = Vec::new(alloc);
-    for _ in 0..count {
-        define(alloc, &mut list, b"A", None)?;
+// Adds those definitions.
+fn define_many(
+    alloc: Global,
+    list: &mut Vec<ClassDef>,
+    count: u16,
+    are_alike: bool,
+) -> Result<(), AllocError> {
+    for number in 0..count {
+        let name = if are_alike { 0 } else { number };
+        define(alloc, list, &name.to_be_bytes(), None)?;
     }
-    Ok(list)
+    Ok(())
 }
 
 // Returns how many classes such definitions are.
@@ -130,10 +133,10 @@ fn count(list: Vec<ClassDef>) -> Result<usize, ClassFault> {
 // A configuration's list of classes is refused before it has this many.
 #[test]
 fn there_are_at_most_256_definitions(rt: HostRuntime) -> Result<(), Fail> {
-    assert!(rt; count(numbered(rt.alloc(), 256)?) == Ok(256));
-    assert!(rt; count(numbered(rt.alloc(), 257)?) == Err(ClassFault::TooMany));
+    assert!(rt; count(many(rt.alloc(), 256, false)?) == Ok(256));
+    assert!(rt; count(many(rt.alloc(), 257, false)?) == Err(ClassFault::TooMany));
     // The fault comes before any other.
-    assert!(rt; count(alike(rt.alloc(), 257)?) == Err(ClassFault::TooMany));
+    assert!(rt; count(many(rt.alloc(), 257, true)?) == Err(ClassFault::TooMany));
     Ok(())
 }
 
@@ -163,9 +166,14 @@ fn put_option(
 // Makes a list of two options.
 fn two_options(alloc: Global) -> Result<OptionList, AllocError> {
     let mut options = Vec::new(alloc);
-    put_option(alloc, &mut options, 3, b"\x0a\x00\x00\x01")?;
-    put_option(alloc, &mut options, 6, b"")?;
+    put_two(alloc, &mut options)?;
     Ok(OptionList::own(options))
+}
+
+// Adds those two.
+fn put_two(alloc: Global, options: &mut Vec<OptionData>) -> Result<(), AllocError> {
+    put_option(alloc, options, 3, b"\x0a\x00\x00\x01")?;
+    put_option(alloc, options, 6, b"")
 }
 
 // Checks those options.

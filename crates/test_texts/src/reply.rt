@@ -30,9 +30,14 @@ fn put_item(alloc: Global, list: &mut Vec<Item>, code: u8, value: &[u8]) -> Resu
 // The options of an ACK with a client identifier of 100 bytes.
 fn two_items(alloc: Global) -> Result<Items, AllocError> {
     let mut list = Vec::new(alloc);
-    put_item(alloc, &mut list, 53, b"\x05")?;
-    put_item(alloc, &mut list, 61, &[7; 100])?;
+    put_two(alloc, &mut list)?;
     Ok(Items::own(list))
+}
+
+// Adds those options.
+fn put_two(alloc: Global, list: &mut Vec<Item>) -> Result<(), AllocError> {
+    put_item(alloc, list, 53, b"\x05")?;
+    put_item(alloc, list, 61, &[7; 100])
 }
 
 // An ACK with a client identifier of 100 bytes. With the cookie and the end option it has 346
