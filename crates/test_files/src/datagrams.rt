@@ -17,12 +17,8 @@ pub(crate) struct Reply {
     pub(crate) option: [u8; 3],
 }
 
-/// The options of an OFFER, an ACK and a NAK.
+/// The first option of an OFFER.
 pub(crate) const OFFER: [u8; 3] = [53, 1, 2];
-
-pub(crate) const ACK: [u8; 3] = [53, 1, 5];
-
-pub(crate) const NAK: [u8; 3] = [53, 1, 6];
 
 // Returns the hardware address of a client.
 fn hardware(client: u32) -> [u8; 6] {
@@ -36,8 +32,8 @@ pub(crate) fn identity(client: u32) -> [u8; 8] {
     [0, 1, a, b, c, d, e, f]
 }
 
-/// Returns the datagram of a client's message, with the client's number as xid.
-pub(crate) fn datagram(alloc: Global, client: u32, options: &[u8]) -> Result<Vec<u8>, AllocError> {
+// Returns the datagram of a client's message, with the client's number as xid.
+fn datagram(alloc: Global, client: u32, options: &[u8]) -> Result<Vec<u8>, AllocError> {
     let mut bytes = Vec::from_slice(alloc, &[1, 1, 6, 0])?;
     bytes.extend_from_slice(&client.to_be_bytes())?;
     bytes.resize(28, 0)?;
@@ -46,24 +42,6 @@ pub(crate) fn datagram(alloc: Global, client: u32, options: &[u8]) -> Result<Vec
     bytes.extend_from_slice(&[99, 130, 83, 99])?;
     bytes.extend_from_slice(options)?;
     Ok(bytes)
-}
-
-/// Returns the options of a DISCOVER that requests an address.
-pub(crate) fn asking(alloc: Global, address: u32) -> Result<Vec<u8>, AllocError> {
-    let mut options = Vec::from_slice(alloc, b"\x35\x01\x01\x32\x04")?;
-    options.extend_from_slice(&address.to_be_bytes())?;
-    options.push(255)?;
-    Ok(options)
-}
-
-/// Returns the options of a REQUEST that selects a server's address.
-pub(crate) fn selecting(alloc: Global, server: u32, address: u32) -> Result<Vec<u8>, AllocError> {
-    let mut options = Vec::from_slice(alloc, b"\x35\x01\x03\x36\x04")?;
-    options.extend_from_slice(&server.to_be_bytes())?;
-    options.extend_from_slice(b"\x32\x04")?;
-    options.extend_from_slice(&address.to_be_bytes())?;
-    options.push(255)?;
-    Ok(options)
 }
 
 // Returns the byte at a position, and 0 after the end.
@@ -85,8 +63,8 @@ fn number_at(bytes: &[u8], at: u8) -> u32 {
     ])
 }
 
-/// Returns what the bytes of a reply say.
-pub(crate) fn reply_in(bytes: &[u8]) -> Reply {
+// Returns what the bytes of a reply say.
+fn reply_in(bytes: &[u8]) -> Reply {
     Reply {
         op: byte_at(bytes, 0),
         xid: number_at(bytes, 4),

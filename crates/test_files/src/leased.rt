@@ -15,8 +15,8 @@ pub(crate) fn address(number: u32) -> u32 {
     0x0a00_0000 | number
 }
 
-/// The time at which each lease was set.
-pub(crate) const CHANGED: u64 = 100;
+// The time at which each lease was set.
+const CHANGED: u64 = 100;
 
 /// Returns the row of the lease with a number: of the address with that number to the client with
 /// that number, for that many seconds.

@@ -1,7 +1,6 @@
-//! Tests of what touches the host: rows and whole servers over a file that is closed and opened
-//! again by its path, or looked at while it is open; a damaged log; more rows than any block of
-//! them; the record of received datagrams; replies over sockets; the host's clocks; and what
-//! prevents a start.
+//! Tests of values that the program does not show: the steady clock; a look at a database whose log
+//! is restarted in the meantime; more rows than any block of them; and the record of received
+//! datagrams. The script `system-tests/host` tests the program over sockets and files.
 //!
 //! They are a separate crate because a crate is proved again together with its tests.
 #![tactic(auto)]
@@ -20,11 +19,3 @@ mod looks;
 mod many;
 #[cfg(test)]
 mod record;
-#[cfg(test)]
-mod rows;
-#[cfg(test)]
-mod serving;
-#[cfg(test)]
-mod sockets;
-#[cfg(test)]
-mod trying;
