@@ -20,7 +20,8 @@ use Rattle.kd_program.specs.declared.serving.Work.{Work}
 use Rattle.kd_replay.specs.declared.ends.Sink.{Ghosts as Sinks}
 use Rattle.kd_replay.specs.declared.link.Link.{Ghosts as Links}
 use Rattle.kd_rows.specs.declared.row.Row.{Row}
-use Rattle.kd_server.specs.Lives.{Call, IsDone, Life, Opening, WasHistory}
+use Rattle.kd_program.specs.Openings.{CommandsAreOpenings}
+use Rattle.kd_server.specs.Lives.{Call, IsDone, Life, Opening, OpeningsAreHistories, OpeningsEnd, WasHistory}
 use Rattle.kd_store.specs.Kept.{Kept}
 use Rattle.kd_store.specs.Stands.{Holds}
 
@@ -28,6 +29,18 @@ use Rattle.kd_store.specs.Stands.{Holds}
 abbrev pub opening : Configuration → List Row → Ports → List Call → Opening
 opening config rows ports calls =
     record { config = config; rows = rows; ports = ports; calls = calls }
+
+-- what is known of the openings of servers over stores of two types
+pub record Openings {S T : Type 0} (k : Ghosts S) (m : Ghosts T) : Type 0 where
+  pub histories : OpeningsAreHistories k
+  pub ends : OpeningsEnd k
+  pub later : OpeningsAreHistories m
+  pub later_ends : OpeningsEnd m
+
+-- the same, and what a command of a host does over the first store
+pub record Commands {H N S U L R T : Type 0} (h : Hosts H N U L R) (l : Links L) (r : Sinks R) (k : Ghosts S) (m : Ghosts T) : Type 0 where
+  pub commands : CommandsAreOpenings h l r k
+  pub openings : Openings k m
 
 -- over stores in files of two types
 module _ {D E : Type 0} {d : Disks D} {e : Disks E} (k : Ghosts (Kept (FileStore D d)))
