@@ -1,3 +1,4 @@
+pub mod Arguments
 pub mod Line
 pub mod Order
 pub mod Steps

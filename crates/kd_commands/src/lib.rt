@@ -7,6 +7,7 @@
 #![tactic(auto)]
 
 mod address;
+mod argument;
 mod fault;
 mod hardware;
 mod line;
