@@ -1,3 +1,4 @@
+pub mod Answered
 pub mod Imported
 pub mod Opened
 pub mod Risen

@@ -110,6 +110,12 @@ module _ {S : Type 0} (g : Ghosts S) where
         old.input.bytes new.input.bytes old.output.bytes new.output.bytes
     pub ends : EndsReplay result status old.faults new.faults
 
+-- what an order prints that needs only its arguments; memory may run out for it
+abbrev pub Says : Order → ℕ → Streams → Streams → Type 0
+Says order status old new =
+    ((printed : Printed) × Answers order printed × Prints printed status old new)
+    ⊎ Starves status old new
+
 -- the requested replies of the log on standard input are printed
 pub record SaysEvents (filter : Filter) (status : ℕ) (old new : Streams) : Type 0 where
   pub result : Result ℕ ReplayFault
@@ -354,12 +360,6 @@ module _ {H N U L R : Type 0} (h : Hosts H N U L R) (named : Ghosts N) (unnamed 
   abbrev pub Imports : List ℕ → At H → At H → ℕ → Type 0
   Imports path before after status =
       ImportsAt path before after status ⊎ HasNoStoreAt path before after status
-
-  -- what an order prints that needs only its arguments; memory may run out for it
-  abbrev pub Says : Order → ℕ → Streams → Streams → Type 0
-  Says order status old new =
-      ((printed : Printed) × Answers order printed × Prints printed status old new)
-      ⊎ Starves status old new
 
   -- a view of the store of these files; if there is a path at which another process may have it
   -- open, it is read without a lock
