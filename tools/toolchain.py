@@ -1,9 +1,13 @@
 """Loads the toolchain's `rt` as a module, so that the scripts in this folder can use its functions."""
 import importlib.machinery
 import os
+import shutil
 import subprocess
+import sys
 import types
 
+if not shutil.which("rt"):
+    sys.exit(f"{os.path.basename(sys.argv[0])}: `rt`, the command of the Rattle toolchain, is not on the path")
 KIT = os.path.dirname(subprocess.run(["rt", "doc"], capture_output=True, text=True, check=True).stdout.split()[-1])
 ROOT = os.path.dirname(os.path.dirname(os.path.realpath(__file__)))
 
