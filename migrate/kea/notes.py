@@ -5,9 +5,9 @@ from typing import Callable, Optional
 # Keys that no client notices.
 ASIDE = set(
     "comment user-context interfaces-config lease-database loggers control-socket multi-threading sanity-checks"
-    " config-control server-tag dhcp-queue-control expired-leases-processing parked-packet-limit cache-threshold"
-    " cache-max-age statistic-default-sample-count statistic-default-sample-age store-extended-info"
-    " host-reservation-identifiers hostname-char-set hostname-char-replacement".split()
+    " server-tag dhcp-queue-control expired-leases-processing parked-packet-limit"
+    " statistic-default-sample-count statistic-default-sample-age store-extended-info"
+    " hostname-char-set hostname-char-replacement".split()
 )
 # Values that ask for what kdhcp does anyway.
 SAME: dict = {
@@ -23,7 +23,28 @@ SAME: dict = {
     "next-server": "0.0.0.0",
     "relay": {"ip-address": "0.0.0.0"},
     "dhcp4o6-port": 0,
+    "cache-threshold": 0,
+    "t1-percent": 0.5,
+    "t2-percent": 0.875,
 }
+# Kea's own defaults: who writes them out asks for nothing. For a list its order does not matter.
+DEFAULTS: dict = {
+    "cache-threshold": 0.25,
+    "host-reservation-identifiers": {"hw-address", "duid", "circuit-id", "client-id"},
+    "authoritative": False,
+    "calculate-tee-times": False,
+    "offer-lifetime": 0,
+    "stash-agent-options": False,
+    "reservations-lookup-first": False,
+    "reservations-out-of-pool": False,
+    "early-global-reservations-lookup": False,
+    "allocator": "iterative",
+}
+
+
+def is_default(key: str, value: object) -> bool:
+    """Whether a key has the value that Kea takes where it is not there."""
+    return key in DEFAULTS and DEFAULTS[key] == (set(value) if isinstance(value, list) else value)
 
 
 class Notes:
@@ -48,6 +69,12 @@ class Notes:
                 self.set_aside(where, "no client notices it")
             elif key.startswith("ddns-") or key == "dhcp-ddns" and not value.get("enable-updates"):
                 self.set_aside(where, "no names are updated")
+            elif key == "config-control" and value.get("config-databases"):
+                self.drop(where, "what is in its databases is not read")
+            elif key == "config-control":
+                self.set_aside(where, "no client notices it")
+            elif is_default(key, value):
+                self.set_aside(where, "this is Kea's default")
             elif value in ("", [], {}) or SAME.get(key) == value or above is not None and above.get(key) == value:
                 self.set_aside(where, "kdhcp does so anyway")
             else:
