@@ -73,8 +73,8 @@ def main():
         read_file(leases, file)
     leases.show()
     if leases.unnamed:
-        print(f"{len(leases.unnamed)} leases have no client identifier (Kea keeps none with match-client-id false): a client that "
-              "sends one (option 61) is a new client here, and gets another address", file=sys.stderr)
+        print(f"{len(leases.unnamed)} leases have no client identifier: the client sent none, or Kea ignores them (match-client-id "
+              "false); a client that sends one is a new client here, and gets another address", file=sys.stderr)
     if not leases.lines and "--allow-empty" not in sys.argv:
         sys.exit(f"{' '.join(files)}: no lease; is this the file that Kea used? With --allow-empty this is no mistake")
 
