@@ -124,17 +124,21 @@ def chains(crates, costs):
 
 def side_by_side(rt, crates, proved, tell):
     """Proves these crates, each as soon as those below it are proved, where `proved` names the libraries that are ready. If
-    processors and memory are free, the crate that the longest chain waits for goes first, with the processors that no other
-    crate can use then. Calls `tell` with each crate's name and seconds."""
+    processors and memory are free, the crate that the longest chain waits for goes first, and half of the processors are for it,
+    and those that no other crate can use then. Calls `tell` with each crate's name and seconds."""
     above = chains(crates, minutes_of_proofs())
     left, running, proved = sorted(crates, key=lambda it: -above[it.name]), {}, {*proved}
     lanes, memory = rt.processors(), 0.85 * rt.free()
     with ThreadPoolExecutor(lanes) as pool:
         while left or running:
             ready = [it for it in left if all(below.name in proved for below in it.below())]
+            longest = max([above[it.name] for it in left] + [above[it[0].name] for it in running.values()])
             for number, crate in enumerate(ready):
-                idle = lanes - sum(jobs for _, jobs, _, _ in running.values())
-                jobs = max(1, min(MOST_PROCESSES, idle - (len(ready) - number - 1)))
+                idle, least = lanes - sum(it[1] for it in running.values()), lanes // 2
+                if above[crate.name] < longest:
+                    others = sum(it[1] for it in running.values() if above[it[0].name] < longest)
+                    idle, least = min(idle, lanes - lanes // 2 - others), 1
+                jobs = max(1, min(idle, least), min(MOST_PROCESSES, idle - (len(ready) - number - 1)))
                 needs = rt.need(crate) * (1 + 0.6 * (jobs - 1))
                 if running and (idle < 1 or sum(it[2] for it in running.values()) + needs > memory):
                     continue
