@@ -9,12 +9,12 @@ use Rattle.kd_commands.specs.declared.orders.Order.{Order}
 use Rattle.kd_config.specs.Configuration.{Configuration}
 use Rattle.kd_database.specs.Stops.{LiesBelow}
 use Rattle.kd_database.specs.Stores.{IsStoreIn, StandsAsHeld}
-use Rattle.kd_host.specs.OnFiles.{IsStatusOnFiles, Left, RunsOnFiles, ServesFiles, order_of}
+use Rattle.kd_host.specs.OnFiles.{IsStatusOnFiles, Left, ReadsNone, RunsOnFiles, ServesFiles, order_of}
 use Rattle.kd_io.specs.Faults.{start_fault_number}
 use Rattle.kd_io.specs.Start.{IsOfFiles}
 use Rattle.kd_keeps.specs.Fault.{store_fault_number}
 use Rattle.kd_keeps.specs.declared.keeps.Keeps.{Ghosts}
-use Rattle.kd_program.specs.Running.{Carries, CarriesOut, HasConfiguration, Starts, WorksOver}
+use Rattle.kd_program.specs.Running.{Carries, CarriesOut, HasConfiguration, IsStoreFor, IsStoreFound, Starts, WorksOver}
 use Rattle.kd_program.specs.Streams.{At, Streams, Tells}
 use Rattle.kd_program.specs.declared.host.Host.{Ghosts as Hosts}
 use Rattle.kd_program.specs.declared.listing.View.TheVariants as views
@@ -53,9 +53,13 @@ module _ {D H U L R : Type 0} (d : Disks D) (h : Hosts H (Kept (FileStore D d)) 
       subst (λ folder. IsOfFiles (is_some files.config) folder config) (some_mapped string_bytes files.token_dir)
       (subst (λ file. IsOfFiles file (is_some (option_map string_bytes files.token_dir)) config) (some_mapped string_bytes files.config) is)
 
+  abbrev Ends : Files → Work → List ℕ → At H → At H → ℕ → Type 0
+  Ends files work path before after status =
+      ServesFiles d h k l r image files work before.streams (left_at after) status ⊎ (Told before after status ⊎ ReadsNone d h k l r work path)
+
   worked : Says → (files : Files) (work : Work) (path : List ℕ) (before after : At H) (status : ℕ) → (c : HasConfiguration h k unnamed l r files work before after status)
       → WorksOver h k unnamed l r (Some path) work c.config (record before { host = c.asked }) after status
-      → ServesFiles d h k l r image files work before.streams (left_at after) status ⊎ Told before after status
+      → Ends files work path before after status
   worked says files work path before after status c (inl w) =
       let opened = says.opens c.asked path w.store w.opened w.given in
       let closed = says.closes w.left path w.back after.host w.closed in
@@ -73,17 +77,38 @@ module _ {D H U L R : Type 0} (d : Disks D) (h : Hosts H (Kept (FileStore D d)) 
         below_is = closed.1;
         leaves = closed.2;
       })
-  worked says files work path before after status c (inr none) = inr (store_fault_number none.fault, none.told)
+  worked says files work path before after status c (inr none) = inr (inl (store_fault_number none.fault, none.told))
+
+  -- work is done over the store at the path, once it is known to be that one
+  at_path : Says → (files : Files) (work : Work) (path : List ℕ) (before after : At H) (status : ℕ) → (c : HasConfiguration h k unnamed l r files work before after status)
+      → c.store ≡ Some path → Ends files work path before after status
+  at_path says files work path before after status c is =
+      worked says files work path before after status c
+      (subst (λ o. WorksOver h k unnamed l r o work c.config (record before { host = c.asked }) after status) is c.works)
+
+  -- the same, where a trial of the path chose the store
+  tried : Says → (files : Files) (work : Work) (path : List ℕ) (before after : At H) (status : ℕ) → (c : HasConfiguration h k unnamed l r files work before after status)
+      → ((host : H) → h.tries host path (Ok false) → ReadsNone d h k l r work path)
+      → IsStoreFound h path c.asked c.store → Ends files work path before after status
+  tried says files work path before after status c reads (Ok true, found, is) = at_path says files work path before after status c is
+  tried says files work path before after status c reads (Ok false, found, is) = inr (inr (reads c.asked found))
+  tried says files work path before after status c reads (Err trouble, found, is) = at_path says files work path before after status c is
+
+  chosen : Says → (files : Files) (work : Work) (path : List ℕ) (before after : At H) (status : ℕ) → (c : HasConfiguration h k unnamed l r files work before after status)
+      → IsStoreFor h (Some path) work c.asked c.store → Ends files work path before after status
+  chosen says files works.Replay path before after status c is = at_path says files works.Replay path before after status c is
+  chosen says files (works.Explain number) path before after status c is = tried says files (works.Explain number) path before after status c (λ host found. (host, found)) is
+  chosen says files (works.Show view) path before after status c is = tried says files (works.Show view) path before after status c (λ host found. (host, found)) is
+  chosen says files (works.Serve service) path before after status c is = at_path says files (works.Serve service) path before after status c is
 
   started : Says → (files : Files) (work : Work) (path : List ℕ) (before after : At H) (status : ℕ) → option_map string_bytes files.store ≡ Some path
-      → Starts h k unnamed l r files work before after status → ServesFiles d h k l r image files work before.streams (left_at after) status ⊎ Told before after status
+      → Starts h k unnamed l r files work before after status → Ends files work path before after status
   started says files work path before after status named (inl c) =
-      worked says files work path before after status c
-      (subst (λ o. WorksOver h k unnamed l r o work c.config (record before { host = c.asked }) after status) named c.works)
-  started says files work path before after status named (inr none) = inr (start_fault_number none.fault, none.told)
+      chosen says files work path before after status c (subst (λ o. IsStoreFor h o work c.asked c.store) named c.is_for)
+  started says files work path before after status named (inr none) = inr (inl (start_fault_number none.fault, none.told))
 
   ordered : Says → (files : Files) (work : Work) (path : List ℕ) (before after : At H) (status : ℕ) → option_map string_bytes files.store ≡ Some path
-      → CarriesOut h k unnamed l r (order_of files work) before after status → ServesFiles d h k l r image files work before.streams (left_at after) status ⊎ Told before after status
+      → CarriesOut h k unnamed l r (order_of files work) before after status → Ends files work path before after status
   ordered says files works.Replay path before after status named c = started says files works.Replay path before after status named c
   ordered says files (works.Explain number) path before after status named c = started says files (works.Explain number) path before after status named c
   ordered says files (works.Show (views.Listing listing at)) path before after status named c = started says files (works.Show (views.Listing listing at)) path before after status named c

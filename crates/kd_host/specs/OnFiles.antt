@@ -84,8 +84,15 @@ module _ {D H U L R : Type 0} (d : Disks D) (h : Hosts H (Kept (FileStore D d)) 
     pub below_is : left.below ≡ Some it
     pub leaves : IsClean (view it) → LiesBelow back.conn it
 
+  -- work only reads, and a trial of its path found no database, so that it is done over none
+  abbrev pub ReadsNone : Work → List ℕ → Type 0
+  ReadsNone works.Replay path = ⊥
+  ReadsNone (works.Explain number) path = (host : H) × h.tries host path (Ok false)
+  ReadsNone (works.Show view) path = (host : H) × h.tries host path (Ok false)
+  ReadsNone (works.Serve service) path = ⊥
+
   -- what arguments do: arguments that are not an order have a fault, which is reported; if they
-  -- name a store, a server works over its files, or a fault is reported
+  -- name a store, a server works over its files, or a fault is reported, or there are none to read
   pub record RunsOnFiles (image : Image) (words : List (List ℕ)) (old : Streams)
       (left : Left (FileStore D d)) (status : ℕ) : Type 0 where
     pub comes_to : ((fault : LineFault) × HasFault words fault
@@ -94,7 +101,7 @@ module _ {D H U L R : Type 0} (d : Disks D) (h : Hosts H (Kept (FileStore D d)) 
         × ((files : Files) (work : Work) (path : List ℕ) → order ≡ order_of files work
         → option_map string_bytes files.store ≡ Some path
         → ServesFiles image files work old left status
-        ⊎ ((number : ℕ) × Tells number status old left.streams)))
+        ⊎ (((number : ℕ) × Tells number status old left.streams) ⊎ ReadsNone work path)))
 
   -- a command over some streams ends with this status
   abbrev pub IsStatusOnFiles : Image → List (List ℕ) → ℕ → Type 0

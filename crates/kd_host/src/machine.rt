@@ -1,9 +1,9 @@
 use kd_check::findings::{SocketTrouble, StoreTrouble};
-use kd_commands::Listening;
+use kd_commands::{Files, Listening};
 use kd_config::Config;
 use kd_database::{left_out, let_go, rows_in_bytes, store_from};
 use kd_io::{
-    Copied, LookFault, Output, Sending, Socket, StartFault, configuration, copy_at, journal,
+    Appended, Copied, LookFault, Output, Sending, Socket, StartFault, configuration, copy_at, journal,
     seconds_of, start_words, try_database, try_socket,
 };
 use kd_keeps::{Cause, Opened, StoreFault, Volatile};
@@ -12,7 +12,7 @@ use kd_replay::EndFailed;
 use kd_rows::Row;
 use kd_store::Store;
 use sqlite::{FileFrom, FileStore, Start};
-use std::alloc::AllocError;
+use std::alloc::{AllocError, Global};
 use std::fs::File;
 use std::net::UdpSocket;
 use std::time::SystemTime;
@@ -151,8 +151,17 @@ impl<'a, F: Start> Host for Machine<'a, F, Below<F>> {
         }
     }
 
-    fn journal(&mut self, path: &str) -> Result<Output<File>, EndFailed> {
-        journal(self.rt, path)
+    fn journal(
+        &mut self,
+        path: &str,
+        files: &Files,
+    ) -> Result<Appended<Output<File>>, EndFailed> {
+        let config = path_of(&files.config);
+        let store = path_of(&files.store);
+        match log_of(self.rt.alloc(), &files.store) {
+            Ok(log) => journal(self.rt, path, &[config, store, log.as_str()]),
+            Err(_) => Err(EndFailed),
+        }
     }
 
     fn start_words(
@@ -191,5 +200,21 @@ impl<'a, F: Start> Host for Machine<'a, F, Below<F>> {
 
     fn version(&self) -> &str {
         self.version
+    }
+}
+
+// Returns a path, or an empty one, which no file has, if none is given.
+fn path_of(path: &Option<String>) -> &str {
+    match path {
+        Some(path) => path.as_str(),
+        None => "",
+    }
+}
+
+// Returns the path of the log of the store at a path, or an empty one if none is given.
+fn log_of(alloc: Global, store: &Option<String>) -> Result<String, AllocError> {
+    match store {
+        Some(path) => format!(in alloc; "{path}-wal"),
+        None => Ok(String::new(alloc)),
     }
 }

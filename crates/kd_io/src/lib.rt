@@ -20,7 +20,7 @@ mod trying;
 mod watching;
 
 pub use activation::inherited_socket;
-pub use appending::journal;
+pub use appending::{Appended, journal};
 pub use files::{InputFault, MOST_BYTES, read_file, read_whole, token_files};
 pub use link::{Sending, Socket, seconds_of, target};
 pub use look::{Copied, FilePart, LookFault, Watched, settled_copy};

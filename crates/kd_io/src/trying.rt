@@ -7,6 +7,7 @@ use crate::start::StartFault;
 use kd_check::config_report;
 use kd_check::findings::{FileTrouble, SocketTrouble, StoreTrouble};
 use kd_config::ConfigFault;
+use kd_names::signs_of;
 use libc::PATH_MAX;
 use os::RangeLock;
 use std::alloc::{AllocError, Global};
@@ -61,9 +62,10 @@ fn config_words(
     let Some(path) = file else {
         return line_of(alloc, "the built-in configuration", "out of memory");
     };
+    let name = signs_of(alloc, path.as_bytes())?;
     match read_file(rt, path, MOST_BYTES) {
-        Ok(text) => config_report(alloc, path, text.as_slice(), fault),
-        Err(_) => config_report(alloc, path, b"", fault),
+        Ok(text) => config_report(alloc, &name, text.as_slice(), fault),
+        Err(_) => config_report(alloc, &name, b"", fault),
     }
 }
 
@@ -132,6 +134,7 @@ fn trouble_of(kind: ErrorKind) -> FileTrouble {
 
 // `SUBJECT: WORDS`, as a line.
 fn line_of(alloc: Global, subject: &str, words: &str) -> Result<String, AllocError> {
+    let subject = signs_of(alloc, subject.as_bytes())?;
     format!(in alloc; "{subject}: {words}\n")
 }
 

@@ -1,4 +1,4 @@
-ghost use Rattle.std.specs.Prelude.{◌≡◌, ◌++◌, OnOk, codes, decimal, string_bytes};
+ghost use Rattle.std.specs.Prelude.{◌≡◌, ◌++◌, IfOk, OnOk, codes, decimal, string_bytes};
 ghost use Rattle.std.specs.List.{flat_map};
 ghost use Rattle.hex.specs.Hex.{encode_lower};
 ghost use Rattle.kd_names.specs.Values.{flag_text, message_type_text, message_type_word, quoted_text, sign_text};
@@ -54,8 +54,13 @@ pub(crate) fn put_quoted(alloc: Global, out: &mut String, value: &[u8]) -> Resul
     out.push_str("\"")
 }
 
-// Appends the bytes of a text.
-fn put_signs(alloc: Global, out: &mut String, value: &[u8]) -> Result<(), AllocError>
+/// Appends the bytes of a text as a terminal may show them: `"` and `\` after a backslash, and a
+/// byte outside 0x20 to 0x7e as `\x` and two hexadecimal digits.
+///
+/// # Errors
+///
+/// Out of memory.
+pub fn put_signs(alloc: Global, out: &mut String, value: &[u8]) -> Result<(), AllocError>
     ensures { OnOk result
         (string_bytes out.new ≡ string_bytes out.old ++ flat_map sign_text value.now) }
 {
@@ -63,6 +68,19 @@ fn put_signs(alloc: Global, out: &mut String, value: &[u8]) -> Result<(), AllocE
         put_sign(alloc, out, *byte)?;
     }
     Ok(())
+}
+
+/// Returns the bytes of a text as `put_signs` appends them.
+///
+/// # Errors
+///
+/// Out of memory.
+pub fn signs_of(alloc: Global, value: &[u8]) -> Result<String, AllocError>
+    ensures { IfOk result (λ text. string_bytes text ≡ flat_map sign_text value.now) }
+{
+    let mut text = String::new(alloc);
+    put_signs(alloc, &mut text, value)?;
+    Ok(text)
 }
 
 // Appends a byte of a text.

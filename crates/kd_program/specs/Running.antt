@@ -1,5 +1,5 @@
 -- What the arguments of a command line do: what is written, and the exit status.
-use Rattle.std.specs.Prelude.{◌≡◌, ◌⊎◌, ℕ, false, true, List, Option, Some, None, Result, Ok, Err, if◌then◌else◌, is_some, option_map, string_bytes, vec_items}
+use Rattle.std.specs.Prelude.{◌≡◌, ◌⊎◌, ℕ, Bool, false, true, List, Option, Some, None, Result, Ok, Err, if◌then◌else◌, is_some, option_map, string_bytes, vec_items}
 use Rattle.std.specs.Result.{IsErrOf}
 use Rattle.kd_print.specs.Printed.{Answers}
 use Rattle.kd_print.specs.Status.{replay_status_of, serve_status_of}
@@ -13,6 +13,7 @@ use Rattle.kd_keeps.specs.Fault.{store_fault_number}
 use Rattle.kd_keeps.specs.Reading.{AreRead}
 use Rattle.kd_keeps.specs.declared.fault.StoreFault.{StoreFault}
 use Rattle.kd_keeps.specs.declared.keeps.Keeps.{Ghosts}
+use Rattle.kd_check.specs.declared.findings.StoreTrouble.{StoreTrouble}
 use Rattle.kd_commands.specs.Order.{AsksFor, HasFault, line_fault_number}
 use Rattle.kd_commands.specs.declared.fault.LineFault.{LineFault}
 use Rattle.kd_commands.specs.declared.orders.Listening.{Listening}
@@ -86,6 +87,13 @@ traffic_of l r session =
       recorded = contents_in r session.journal;
       written = session.streams.output.bytes;
     }
+
+-- the store for work that only reads, by what a trial of its path found: where there is no database,
+-- it is one in memory, so that none is made
+abbrev pub store_found : List ℕ → Result Bool StoreTrouble → Option (List ℕ)
+store_found path (Ok true) = Some path
+store_found path (Ok false) = None
+store_found path (Err trouble) = Some path
 
 -- over a link, a record and a store of leases
 module _ {L R S : Type 0} (l : Links L) (r : Sinks R) (g : Ghosts S) where
@@ -240,6 +248,23 @@ module _ {H N U L R S : Type 0} (h : Hosts H N U L R) (l : Links L) (r : Sinks R
   ServesWork work config before after status =
       IsServed work config before after status ⊎ IsNotServed config before after status
 
+-- over a host
+module _ {H N U L R : Type 0} (h : Hosts H N U L R) where
+  -- a path was tried, and this is the store for work that only reads
+  abbrev pub IsStoreFound : List ℕ → H → Option (List ℕ) → Type 0
+  IsStoreFound path host store =
+      (answer : Result Bool StoreTrouble) × h.tries host path answer
+      × (store ≡ store_found path answer)
+
+  -- the path of the store that work uses, which is in memory if there is none: the path that the
+  -- operator gave, but work that only reads goes by what a trial of it found
+  abbrev pub IsStoreFor : Option (List ℕ) → Work → H → Option (List ℕ) → Type 0
+  IsStoreFor None work host store = store ≡ None
+  IsStoreFor (Some path) works.Replay host store = store ≡ Some path
+  IsStoreFor (Some path) (works.Explain number) host store = IsStoreFound path host store
+  IsStoreFor (Some path) (works.Show view) host store = IsStoreFound path host store
+  IsStoreFor (Some path) (works.Serve service) host store = store ≡ Some path
+
 -- over a host with its two sorts of stores, its sockets and its records
 module _ {H N U L R : Type 0} (h : Hosts H N U L R) (named : Ghosts N) (unnamed : Ghosts U)
     (l : Links L) (r : Sinks R) where
@@ -297,8 +322,9 @@ module _ {H N U L R : Type 0} (h : Hosts H N U L R) (named : Ghosts N) (unnamed 
     pub asked : H
     pub given : h.configures before.host (option_map string_bytes files.config)
         (option_map string_bytes files.token_dir) (Ok config) asked
-    pub works : WorksOver (option_map string_bytes files.store) work config
-        (record before { host = asked }) after status
+    pub store : Option (List ℕ)
+    pub is_for : IsStoreFor h (option_map string_bytes files.store) work asked store
+    pub works : WorksOver store work config (record before { host = asked }) after status
 
   -- the host gives no configuration of these files, and this is reported
   pub record HasNoConfiguration (files : Files) (before after : At H) (status : ℕ) : Type 0 where

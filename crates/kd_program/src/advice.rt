@@ -3,7 +3,11 @@ use kd_check::findings::SocketTrouble;
 use kd_classes::Classes;
 use kd_config::{Config, Pool, Prefix, Subnet};
 use kd_replay::{put_address, put_prefix};
+use kd_token::{Token, Verified};
 use std::alloc::AllocError;
+
+// The first address that no host can have: multicast (RFC 1112), reserved ones and broadcast.
+const FIRST_OF_NO_HOST: u32 = 0xe000_0000;
 
 // Prints a line for each part of a configuration that is probably a mistake, though a server starts
 // with it. `name` is the name of the configuration.
@@ -14,16 +18,31 @@ pub(crate) fn put_advice<H: Host>(
     config: &Config,
 ) -> Result<(), AllocError> {
     let server = config.server();
-    if let Err(SocketTrouble::NoSuchAddress) = host.try_socket(server, 0) {
-        begin_line(text, name, "server-address ")?;
-        put_address(text, server)?;
-        text.push_str(": this machine has no such address\n")?;
-    }
+    put_server(text, host, name, server)?;
     for subnet in config.subnets() {
         put_class(text, name, config.classes(), subnet)?;
         put_pools(text, name, server, subnet)?;
     }
     Ok(())
+}
+
+// Prints a line if clients cannot reach a server at an address.
+fn put_server<H: Host>(
+    text: &mut String,
+    host: &H,
+    name: &str,
+    server: u32,
+) -> Result<(), AllocError> {
+    let what = if server >= FIRST_OF_NO_HOST {
+        ": no host has such an address\n"
+    } else if let Err(SocketTrouble::NoSuchAddress) = host.try_socket(server, 0) {
+        ": this machine has no such address\n"
+    } else {
+        return Ok(());
+    };
+    begin_line(text, name, "server-address ")?;
+    put_address(text, server)?;
+    text.push_str(what)
 }
 
 // Begins a line about a part of a configuration.
@@ -33,21 +52,53 @@ fn begin_line(text: &mut String, name: &str, part: &str) -> Result<(), AllocErro
     text.push_str(part)
 }
 
-// Prints a line if nobody can be in the class that a subnet requires.
+// Prints a line if nobody can be in the class that a subnet requires, or if its clients leave it as
+// they renew.
 fn put_class(
     text: &mut String,
     name: &str,
     classes: &Classes,
     subnet: &Subnet,
 ) -> Result<(), AllocError> {
-    match &subnet.class {
-        Some(class) if !may_be_held(classes, class.as_slice()) => {
-            begin_line(text, name, "subnet ")?;
-            put_prefix(text, subnet.prefix.address, subnet.prefix.length)?;
-            text.push_str(": its client-class is not defined, so it serves nobody\n")
+    let Some(class) = &subnet.class else {
+        return Ok(());
+    };
+    let what = if !may_be_held(classes, class.as_slice()) {
+        ": its client-class is not defined, so it serves nobody\n"
+    } else if asks_relays(classes, class.as_slice()) {
+        ": its client-class asks for option 82, which a client that renews does not send, so it does not serve renewals\n"
+    } else {
+        return Ok(());
+    };
+    begin_line(text, name, "subnet ")?;
+    put_prefix(text, subnet.prefix.address, subnet.prefix.length)?;
+    text.push_str(what)
+}
+
+// Reports whether the test of a class asks for what a relay adds (RFC 3046).
+fn asks_relays(classes: &Classes, name: &[u8]) -> bool {
+    for at in 0..classes.len() {
+        if let Some(definition) = classes.def_at(at) {
+            if definition.name.as_slice() == name {
+                return test_asks_relays(&definition.test);
+            }
         }
-        _ => Ok(()),
     }
+    false
+}
+
+// Reports whether a test asks for what a relay adds.
+fn test_asks_relays(test: &Option<Verified>) -> bool {
+    let Some(test) = test else {
+        return false;
+    };
+    for token in test.program().tokens() {
+        match token {
+            Token::PushRelay(_) | Token::RelayExists(_) => return true,
+            _ => {}
+        }
+    }
+    false
 }
 
 // Reports whether a message can be in a class: it is built in or defined.

@@ -1,5 +1,6 @@
 use kd_commands::Listening;
 use kd_config::Subnet;
+use kd_names::put_signs;
 use kd_replay::put_address;
 use std::alloc::{AllocError, Global};
 use std::fmt::Write;
@@ -41,25 +42,45 @@ pub(crate) fn pool_addresses(subnets: &[Subnet]) -> u64 {
     sum
 }
 
-// Returns the line
+// Prints the line
 // `serving ADDRESS:PORT, subnets N, addresses N, leases N, latest change MOMENT, store PATH`, with
 // its line feed. If there are no leases, the latest change is a dash.
-pub(crate) fn banner_line(alloc: Global, banner: &Banner<'_>) -> Result<String, AllocError> {
-    let mut line = String::new(alloc);
+pub(crate) fn put_banner(
+    alloc: Global,
+    line: &mut String,
+    banner: &Banner<'_>,
+) -> Result<(), AllocError> {
     line.push_str("serving ")?;
-    put_place(&mut line, banner.listening.bind, banner.listening.port)?;
+    put_place(line, banner.listening.bind, banner.listening.port)?;
     line.push_str(", subnets ")?;
-    put_grouped(&mut line, banner.sizes.subnets as u64)?;
+    put_grouped(line, banner.sizes.subnets as u64)?;
     line.push_str(", addresses ")?;
-    put_grouped(&mut line, banner.sizes.addresses)?;
+    put_grouped(line, banner.sizes.addresses)?;
     line.push_str(", leases ")?;
-    put_grouped(&mut line, banner.leases as u64)?;
+    put_grouped(line, banner.leases as u64)?;
     line.push_str(", latest change ")?;
-    put_latest(&mut line, banner)?;
+    put_latest(line, banner)?;
     line.push_str(", store ")?;
-    line.push_str(banner.store)?;
-    line.push_str("\n")?;
-    Ok(line)
+    put_signs(alloc, line, banner.store.as_bytes())?;
+    line.push_str("\n")
+}
+
+// Prints a line that says how many bytes were removed from the record at a path, if any were.
+pub(crate) fn put_removed(
+    alloc: Global,
+    line: &mut String,
+    path: Option<&str>,
+    removed: u64,
+) -> Result<(), AllocError> {
+    let Some(path) = path else {
+        return Ok(());
+    };
+    if removed == 0 {
+        return Ok(());
+    }
+    line.push_str("record ")?;
+    put_signs(alloc, line, path.as_bytes())?;
+    write!(line, ": its last line was not whole, {removed} bytes of it are removed\n")
 }
 
 // Prints an address, a number in host order, and a port.

@@ -1,7 +1,7 @@
 use kd_check::findings::{SocketTrouble, StoreTrouble};
-use kd_commands::Listening;
+use kd_commands::{Files, Listening};
 use kd_config::Config;
-use kd_io::{LookFault, StartFault};
+use kd_io::{Appended, LookFault, StartFault};
 use kd_keeps::{Keeps, Opened, StoreFault};
 use kd_replay::{EndFailed, Link, Sink};
 use kd_rows::Row;
@@ -139,13 +139,20 @@ pub trait Host {
         ensures works { IfOk result (λ link. Self.Socket.has_failed link ≡ false) };
 
     /// Opens the record at a path for appending, or a new one if there is none. It has not failed.
+    /// The beginning of a line at its end is removed.
     ///
     /// # Errors
     ///
-    /// The record cannot be written.
-    fn journal(&mut self, path: &str) -> Result<Self::Journal, EndFailed>
-        ensures given { records self.old path.now result self.new }
-        ensures works { IfOk result (λ sink. Self.Journal.has_failed sink ≡ false) };
+    /// The record cannot be written, or is one of these files or of the files of the streams.
+    fn journal(
+        &mut self,
+        path: &str,
+        files: &Files,
+    ) -> Result<Appended<Self::Journal>, EndFailed>
+        ensures given { MatchResult result
+            (λ it. records self.old path.now (Ok it.sink) self.new)
+            (λ failed. records self.old path.now (Err failed) self.new) }
+        ensures works { IfOk result (λ it. Self.Journal.has_failed it.sink ≡ false) };
 
     /// Returns, in words, why these files give no configuration: lines, each with its line feed.
     /// The files are tried again.

@@ -7,6 +7,7 @@ use kd_commands::Files;
 use kd_config::Config;
 use kd_io::{LookFault, StartFault};
 use kd_keeps::StoreFault;
+use kd_names::signs_of;
 use std::alloc::{AllocError, Global};
 use std::fmt::Write;
 use std::net::Ipv4Addr;
@@ -19,17 +20,33 @@ pub(crate) fn report_of<H: Host>(
     found: &Found<'_>,
 ) -> Result<String, AllocError> {
     let mut text = String::new(alloc);
-    put_config(&mut text, host, files, found.config)?;
+    put_config(alloc, &mut text, host, files, found.config)?;
     if let Some(path) = &files.store {
-        put_store(&mut text, path.as_str(), found.store)?;
-        put_log(&mut text, host, path.as_str(), found.store)?;
+        let name = signs_of(alloc, path.as_bytes())?;
+        put_store(&mut text, name.as_str(), found.store)?;
+        put_log(&mut text, host, path.as_str(), name.as_str(), found.store)?;
     }
     put_socket(&mut text, found.place, found.socket)?;
-    Ok(text)
+    lines_shown(alloc, text.as_bytes())
+}
+
+// Returns lines as a terminal may show them: what is no line feed and outside 0x20 to 0x7e, as the
+// name of a class may be, as `\x` and two hexadecimal digits.
+fn lines_shown(alloc: Global, text: &[u8]) -> Result<String, AllocError> {
+    let mut shown = String::new(alloc);
+    for byte in text {
+        if *byte == b'\n' || (b' ' <= *byte && *byte <= b'~') {
+            shown.push(char::from(*byte))?;
+        } else {
+            write!(shown, "\\x{byte:02x}")?;
+        }
+    }
+    Ok(shown)
 }
 
 // Prints what was found out about a configuration.
 fn put_config<H: Host>(
+    alloc: Global,
     text: &mut String,
     host: &H,
     files: &Files,
@@ -39,10 +56,11 @@ fn put_config<H: Host>(
     match config {
         Ok(config) => {
             let name = file.unwrap_or("the built-in configuration");
+            let name = signs_of(alloc, name.as_bytes())?;
             let subnets = config.subnets().len();
             let addresses = pool_addresses(config.subnets());
             write!(text, "{name}: subnets {subnets}, addresses {addresses}\n")?;
-            put_advice(text, host, name, config)
+            put_advice(text, host, name.as_str(), config)
         }
         Err(fault) => {
             let words = host.start_words(file, text_of(&files.token_dir), fault)?;
@@ -60,8 +78,8 @@ fn text_of(path: &Option<String>) -> Option<&str> {
 }
 
 // Prints what was found out about a store.
-fn put_store(text: &mut String, path: &str, store: &StoreFinding) -> Result<(), AllocError> {
-    text.push_str(path)?;
+fn put_store(text: &mut String, name: &str, store: &StoreFinding) -> Result<(), AllocError> {
+    text.push_str(name)?;
     match store {
         StoreFinding::Unasked => {}
         StoreFinding::New => text.push_str(
@@ -95,6 +113,7 @@ fn put_log<H: Host>(
     text: &mut String,
     host: &H,
     path: &str,
+    name: &str,
     store: &StoreFinding,
 ) -> Result<(), AllocError> {
     let StoreFinding::Open(_) = store else {
@@ -103,7 +122,7 @@ fn put_log<H: Host>(
     match host.left_out(path) {
         Some(bytes) => writeln!(
             text,
-            "{path}-wal: damaged, serve leaves out the {bytes} bytes behind its last good commit"
+            "{name}-wal: damaged, serve leaves out the {bytes} bytes behind its last good commit"
         ),
         None => Ok(()),
     }

@@ -1,4 +1,4 @@
-ghost use Rattle.std.specs.Prelude.{◌≡◌, ◌<◌, IfOk, false, is_some, option_map, string_bytes};
+ghost use Rattle.std.specs.Prelude.{◌≡◌, ◌<◌, Err, IfOk, MatchResult, Ok, false, is_some, option_map, string_bytes};
 ghost use Rattle.std.specs.Option.{option_copied};
 ghost use Rattle.kd_print.specs.Status.{status_of};
 ghost use Rattle.kd_io.specs.Faults.{start_fault_number};
@@ -6,9 +6,9 @@ ghost use Rattle.kd_keeps.specs.Fault.{store_fault_number};
 ghost use Rattle.kd_keeps.specs.Reading.{AreRead};
 ghost use Rattle.kd_program.specs.Streams.{TellsWith, at_ends, streams, written_to};
 ghost use Rattle.kd_replay.specs.Serving.{failed_in};
-ghost use Rattle.kd_program.specs.Running.{GivesJournal, Listens, ReplaysInput, ServesWork, Starts, Works, ports_asked};
+ghost use Rattle.kd_program.specs.Running.{GivesJournal, IsStoreFor, IsStoreFound, Listens, ReplaysInput, ServesWork, Starts, Works, ports_asked};
 
-use crate::banner::{Banner, Sizes, banner_line, pool_addresses};
+use crate::banner::{Banner, Sizes, pool_addresses, put_banner, put_removed};
 use crate::ends::StandardEnds;
 use crate::explaining::explain_line;
 use crate::host::Host;
@@ -17,7 +17,7 @@ use crate::printing::{refuse, refuse_as, refuse_memory, refuse_replay, tell};
 use kd_commands::{Files, Listening};
 use kd_config::Config;
 use kd_event::Ports;
-use kd_io::StartFault;
+use kd_io::{Appended, StartFault};
 use kd_keeps::{Keeps, Opened, StoreFault};
 use kd_print::serve_status;
 use kd_replay::{EndFailed, Limits, Link, LoopFault, Sink, Source};
@@ -50,14 +50,6 @@ pub enum Work {
     Serve(Service),
 }
 
-// A store, as the operator names it.
-#[derive(Clone, Copy)]
-struct Place<'a> {
-    name: &'a str,
-    // Whether the store is in a file, so that a commit takes time.
-    is_file: bool,
-}
-
 // Returns how many datagrams may share one commit: 32 if a commit takes time, so that waiting
 // datagrams need not wait for one commit each; otherwise 1. It is also 1 if replies go to the
 // sender, which is known only for the last datagram.
@@ -68,7 +60,8 @@ fn batch_size(is_file: bool, mirror: bool) -> usize
 }
 
 // Does this work as a server with the configuration of these files, which keeps its leases in the
-// store at a path, or in memory if there is none; and returns the exit status.
+// store at a path, or in memory if there is none; and returns the exit status. Work that only reads
+// makes no database.
 pub(crate) fn start_server<H: Host, R: Source, O: Sink, E: Sink>(
     alloc: Global,
     host: &mut H,
@@ -87,32 +80,46 @@ pub(crate) fn start_server<H: Host, R: Source, O: Sink, E: Sink>(
         Ok(config) => config,
         Err(fault) => return refuse_start(alloc, &mut ends.faults, &fault),
     };
-    match &files.store {
-        Some(path) => match host.named_store(path.as_str()) {
+    match store_for(host, files, work) {
+        Some(path) => match host.named_store(path) {
             Ok(opened) => {
-                let name = path.as_str();
-                let place = Place {
-                    name,
-                    is_file: true,
-                };
                 let (status, store) = run_over_store(
-                    alloc, host, ends, config, opened, place, work,
+                    alloc, host, ends, config, opened, files, work,
                 );
-                host.close(name, store);
+                host.close(path, store);
                 status
             }
             Err(fault) => refuse_store(alloc, &mut ends.faults, &fault),
         },
         None => match host.unnamed_store() {
-            Ok(opened) => {
-                let place = Place {
-                    name: "memory",
-                    is_file: false,
-                };
-                run_over_store(alloc, host, ends, config, opened, place, work).0
-            }
+            Ok(opened) => run_over_store(alloc, host, ends, config, opened, files, work).0,
             Err(fault) => refuse_store(alloc, &mut ends.faults, &fault),
         },
+    }
+}
+
+// Returns the path of the store for this work, if it is not in memory.
+fn store_for<'a, H: Host>(host: &H, files: &'a Files, work: &Work) -> Option<&'a str>
+    ensures { IsStoreFor H.Host (option_map string_bytes files.now.store) work.now host.now
+        (option_copied result) }
+{
+    match &files.store {
+        Some(path) => match work {
+            Work::Replay | Work::Serve(_) => Some(path.as_str()),
+            Work::Explain(_) | Work::Show(_) => store_found(host, path.as_str()),
+        },
+        None => None,
+    }
+}
+
+// Returns the path of the store for work that only reads, unless there is no database: none is made
+// for it.
+fn store_found<'a, H: Host>(host: &H, path: &'a str) -> Option<&'a str>
+    ensures { IsStoreFound H.Host path.now host.now (option_copied result) }
+{
+    match host.try_database(path) {
+        Ok(false) => None,
+        _ => Some(path),
     }
 }
 
@@ -159,7 +166,7 @@ fn run_over_store<H: Host, R: Source, O: Sink, E: Sink, S: Keeps>(
     ends: &mut StandardEnds<R, O, E>,
     config: Config,
     opened: Opened<S>,
-    place: Place<'_>,
+    files: &Files,
     work: &Work,
 ) -> (u8, S)
     requires store { is_some (S.fault opened.store) ≡ false }
@@ -179,7 +186,7 @@ fn run_over_store<H: Host, R: Source, O: Sink, E: Sink, S: Keeps>(
             return (status, store);
         }
     };
-    let status = do_work(alloc, host, ends, &mut server, work, place);
+    let status = do_work(alloc, host, ends, &mut server, work, files);
     let (_, store) = server.close();
     (status, store)
 }
@@ -191,7 +198,7 @@ fn do_work<H: Host, R: Source, O: Sink, E: Sink, S: Keeps>(
     ends: &mut StandardEnds<R, O, E>,
     server: &mut Server<S>,
     work: &Work,
-    place: Place<'_>,
+    files: &Files,
 ) -> u8
     requires input { R.has_failed ends.old.input ≡ false }
     requires output { O.has_failed ends.old.output ≡ false }
@@ -205,7 +212,7 @@ fn do_work<H: Host, R: Source, O: Sink, E: Sink, S: Keeps>(
         Work::Replay => replay_input(alloc, ends, server),
         Work::Explain(number) => explain_line(alloc, ends, &table_of(server), *number),
         Work::Show(view) => print_view(alloc, ends, view, &table_of(server)),
-        Work::Serve(service) => serve_link(alloc, host, ends, server, service, place),
+        Work::Serve(service) => serve_link(alloc, host, ends, server, service, files),
     }
 }
 
@@ -263,7 +270,7 @@ fn serve_link<H: Host, R: Source, O: Sink, E: Sink, S: Keeps>(
     ends: &mut StandardEnds<R, O, E>,
     server: &mut Server<S>,
     service: &Service,
-    place: Place<'_>,
+    files: &Files,
 ) -> u8
     requires output { O.has_failed ends.old.output ≡ false }
     ensures { Listens H.Host H.Socket.Link H.Journal.Sink S.Keeps
@@ -276,23 +283,23 @@ fn serve_link<H: Host, R: Source, O: Sink, E: Sink, S: Keeps>(
         let fault = LoopFault::Read;
         return refuse(alloc, &mut ends.faults, fault.number(), &fault);
     };
-    let Ok(mut journal) = journal_of(host, &service.journal) else {
+    let Ok(mut record) = journal_of(host, &service.journal, files) else {
         let fault = LoopFault::Record;
         return refuse(alloc, &mut ends.faults, fault.number(), &fault);
     };
-    let Ok(line) = line_of(alloc, server, service.listening, place) else {
+    let Ok(lines) = first_lines(alloc, server, service, files, record.removed) else {
         return refuse_memory(&mut ends.faults);
     };
-    tell(&mut ends.faults, line.as_bytes());
+    tell(&mut ends.faults, lines.as_bytes());
     let limits = Limits {
-        most: batch_size(place.is_file, service.listening.mirror),
+        most: batch_size(files.store.is_some(), service.listening.mirror),
         count: service.count,
         max_ahead: service.max_ahead,
     };
     match serve(
         alloc,
         &mut link,
-        &mut journal,
+        &mut record.sink,
         &mut ends.output,
         server,
         limits,
@@ -308,12 +315,14 @@ fn serve_link<H: Host, R: Source, O: Sink, E: Sink, S: Keeps>(
     }
 }
 
-// Returns what a server reports about itself before it serves.
-fn line_of<S: Keeps>(
+// Returns what a server reports before it serves: the bytes that were removed from its record, if
+// any, and itself.
+fn first_lines<S: Keeps>(
     alloc: Global,
     server: &Server<S>,
-    listening: Listening,
-    place: Place<'_>,
+    service: &Service,
+    files: &Files,
+    removed: u64,
 ) -> Result<String, AllocError> {
     let subnets = server.config().subnets();
     let sizes = Sizes {
@@ -321,23 +330,42 @@ fn line_of<S: Keeps>(
         addresses: pool_addresses(subnets),
     };
     let banner = Banner {
-        listening,
+        listening: service.listening,
         sizes,
         leases: server.row_count(),
         latest: server.latest_change(),
-        store: place.name,
+        store: text_of(&files.store).unwrap_or("memory"),
     };
-    banner_line(alloc, &banner)
+    let mut lines = String::new(alloc);
+    put_removed(alloc, &mut lines, text_of(&service.journal), removed)?;
+    put_banner(alloc, &mut lines, &banner)?;
+    Ok(lines)
 }
 
 // Opens the record at a path, if one is given.
-fn journal_of<H: Host>(host: &mut H, path: &Option<String>) -> Result<Option<H::Journal>, EndFailed>
-    ensures given { GivesJournal H.Host H.Journal.Sink host.old (option_map string_bytes path.now)
-        result host.new }
-    ensures works { IfOk result (λ journal. failed_in H.Journal.Sink journal ≡ false) }
+fn journal_of<H: Host>(
+    host: &mut H,
+    path: &Option<String>,
+    files: &Files,
+) -> Result<Appended<Option<H::Journal>>, EndFailed>
+    ensures given { MatchResult result
+        (λ it. GivesJournal H.Host H.Journal.Sink host.old (option_map string_bytes path.now)
+            (Ok it.sink) host.new)
+        (λ failed. GivesJournal H.Host H.Journal.Sink host.old (option_map string_bytes path.now)
+            (Err failed) host.new) }
+    ensures works { IfOk result (λ it. failed_in H.Journal.Sink it.sink ≡ false) }
 {
     match path {
-        Some(path) => Ok(Some(host.journal(path.as_str())?)),
-        None => Ok(None),
+        Some(path) => {
+            let Appended { sink, removed } = host.journal(path.as_str(), files)?;
+            Ok(Appended {
+                sink: Some(sink),
+                removed,
+            })
+        }
+        None => Ok(Appended {
+            sink: None,
+            removed: 0,
+        }),
     }
 }

@@ -6,6 +6,7 @@ ghost use Rattle.kd_config.specs.declared.fault.ConfigFault.TheVariants.{Memory}
 
 use crate::fault::ConfigFault;
 use crate::objects::faults::SettingsFault;
+use kd_names::put_signs;
 use std::alloc::{AllocError, Global};
 
 // The place of a value in a configuration.
@@ -95,25 +96,13 @@ fn path_of_key(alloc: Global, at: &Place<'_>, key: &str) -> Result<String, Alloc
     Ok(path)
 }
 
-// Returns the path of a key that the text gives, on one line.
+// Returns the path of a key that the text gives, as a terminal may show it.
 fn path_of_unknown(alloc: Global, at: &Place<'_>, key: &str) -> Result<String, AllocError> {
     let mut path = String::new(alloc);
     push_path(alloc, &mut path, at)?;
     path.push_str("/")?;
-    for c in key.chars() {
-        push_on_one_line(alloc, &mut path, c)?;
-    }
+    put_signs(alloc, &mut path, key.as_bytes())?;
     Ok(path)
-}
-
-// Appends a character to a text; a control character is written as its number.
-fn push_on_one_line(alloc: Global, text: &mut String, c: char) -> Result<(), AllocError> {
-    if c.is_ascii_control() {
-        let number = format!(in alloc; "\\x{:02x}", u32::from(c))?;
-        text.push_str(&number)
-    } else {
-        text.push(c)
-    }
 }
 
 // Returns the path of a place; that of the root is `-`.

@@ -1,4 +1,5 @@
-use Rattle.std.proofs.Common.{rules, refl, subst, sym, inl, inr, option_map, string_bytes}
+use Rattle.std.proofs.Common.{rules, refl, subst, sym, inl, inr}
+use Rattle.std.specs.Option.{option_copied}
 use Rattle.kd_program.specs.Streams.{at_ends}
 use Rattle.kd_program.specs.Running.{WorksOver}
 use Rattle.kd_program.proofs.serving.start_server.Goals as goal
@@ -8,9 +9,11 @@ returns-in-Err-named_store g c = inl (record {
   config = c.in-Ok.config;
   asked = c.read_configuration.new.host;
   given = c.in-Ok.ensures;
+  store = option_copied c.store_for.result;
+  is_for = c.store_for.ensures;
   works = subst
       (λ path. WorksOver g.H.Host g.H.Named.Keeps g.H.Unnamed.Keeps g.H.Socket.Link g.H.Journal.Sink
-      (option_map string_bytes path) c.args.work.now c.in-Ok.config
+      (option_copied path) c.args.work.now c.in-Ok.config
       (at_ends g.R.Source g.O.Sink g.E.Sink c.read_configuration.new.host c.args.ends.now)
       (at_ends g.R.Source g.O.Sink g.E.Sink c.named_store.new.self record {
         input = c.args.ends.now.input;
@@ -31,9 +34,11 @@ returns-in-Err-unnamed_store g c = inl (record {
   config = c.in-Ok.config;
   asked = c.read_configuration.new.host;
   given = c.in-Ok.ensures;
+  store = option_copied c.store_for.result;
+  is_for = c.store_for.ensures;
   works = subst
       (λ path. WorksOver g.H.Host g.H.Named.Keeps g.H.Unnamed.Keeps g.H.Socket.Link g.H.Journal.Sink
-      (option_map string_bytes path) c.args.work.now c.in-Ok.config
+      (option_copied path) c.args.work.now c.in-Ok.config
       (at_ends g.R.Source g.O.Sink g.E.Sink c.read_configuration.new.host c.args.ends.now)
       (at_ends g.R.Source g.O.Sink g.E.Sink c.unnamed_store.new.self record {
         input = c.args.ends.now.input;
