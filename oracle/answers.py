@@ -2,7 +2,7 @@
 """Computes the replies of a server to INFORMs, for the configuration of an example.
 
     answers.py FOLDER      reads FOLDER/config.json, FOLDER/*.k4tk and FOLDER/events.lines, and prints the replies
-    answers.py             writes replies.lines to each folder of crates/cases/data/examples that has no
+    answers.py             writes replies.lines to each folder of cases/examples that has no
                            leases.lines; examples.py writes those of the others
 
 It computes the replies a second time, from RFC 2131, 2132, 3046 and Kea's manual. It was written separately from the
@@ -240,7 +240,7 @@ def main():
     if len(sys.argv) == 2:
         sys.stdout.writelines(answers(sys.argv[1]))
         return
-    for path in sorted(glob.glob(f"{HERE}/../crates/cases/data/examples/*/config.json")):
+    for path in sorted(glob.glob(f"{HERE}/../cases/examples/*/config.json")):
         folder = os.path.dirname(path)
         if os.path.exists(f"{folder}/leases.lines"):
             continue

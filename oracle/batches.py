@@ -1,9 +1,9 @@
 #!/usr/bin/env python3
 """Serves a day of long_day.py in batches of random sizes: batches.py SEED [EVENTS] [CLIENTS] [--program P]
 
-The defaults are 20,000 events, 4,000 clients and the program crates/cases/out/cases. It runs cases of `kdhcp serve
---store` of random length with one store, each at a port from 1 to 32: in the cases, that many datagrams arrive together.
-Each line must be the one from the judge, and so must the table at the end.
+The defaults are 20,000 events, 4,000 clients and the program crates/kdhcp/out/kdhcp. It runs console cases
+(system-tests/cases) of `kdhcp serve --store` of random length with one store, each at a port from 1 to 32: in the cases,
+that many datagrams arrive together. Each line must be the one from the judge, and so must the table at the end.
 """
 import argparse
 import json
@@ -22,7 +22,7 @@ def main():
     words.add_argument("seed", type=int)
     words.add_argument("events", type=int, nargs="?", default=20_000)
     words.add_argument("clients", type=int, nargs="?", default=4_000)
-    words.add_argument("--program", default=os.path.join(ROOT, "crates", "cases", "out", "cases"))
+    words.add_argument("--program", default=os.path.join(ROOT, "crates", "kdhcp", "out", "kdhcp"))
     words = words.parse_args()
     chance = random.Random(words.seed)
     root, lines, wanted, table = day(chance, words.events, words.clients)
@@ -41,9 +41,10 @@ def main():
     with tempfile.TemporaryDirectory() as folder:
         with open(os.path.join(folder, "config.json"), "w", encoding="utf-8") as file:
             json.dump({"Dhcp4": root}, file)
-        with open(os.path.join(folder, "day.cases"), "w", encoding="utf-8") as file:
+        path = os.path.join(folder, "day.cases")
+        with open(path, "w", encoding="utf-8") as file:
             file.write("\n".join([*cases, ""]))
-        subprocess.run([words.program, "day.cases"], cwd=folder, check=True)
+        subprocess.run([os.path.join(ROOT, "system-tests", "cases"), words.program, path], check=True)
     print(f"{words.events} events in {runs} runs")
 
 

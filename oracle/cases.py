@@ -1,7 +1,7 @@
 #!/usr/bin/env python3
 """Checks the expected lines of cases of `kdhcp replay` and `kdhcp leases` with judge.py.
 
-    cases.py [FILE ..]     files of cases (crates/cases/README.md), by default crates/cases/data/leases_*.cases
+    cases.py [FILE ..]     files of cases (cases/README.md), by default cases/leases_*.cases
 
 It prints each case that differs from judge.py, and the counts. It skips cases of other commands, and cases that expect a
 fault of arguments, files or a configuration. The exit status is 1 if a case differs.
@@ -14,7 +14,7 @@ import sys
 
 import judge
 
-DATA = os.path.join(judge.HERE, "..", "crates", "cases", "data")
+DATA = os.path.join(judge.HERE, "..", "cases")
 
 
 def expanded(names, text):

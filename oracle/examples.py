@@ -2,7 +2,7 @@
 """Writes the lines that the server must print for the examples with leases: replies.lines, and the table at the end,
 leases.lines.
 
-    examples.py     for each folder of crates/cases/data/examples that has leases.lines
+    examples.py     for each folder of cases/examples that has leases.lines
 
 The time of the table is that of the last event. answers.py writes the examples without leases.
 """
@@ -18,7 +18,7 @@ def written(path, lines):
 
 
 def main():
-    for path in sorted(glob.glob(f"{judge.HERE}/../crates/cases/data/examples/*/leases.lines")):
+    for path in sorted(glob.glob(f"{judge.HERE}/../cases/examples/*/leases.lines")):
         folder = os.path.dirname(path)
         with open(f"{folder}/events.lines", encoding="ascii") as file:
             events = file.read().splitlines()

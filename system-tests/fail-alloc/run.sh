@@ -89,7 +89,7 @@ each_refusal_of_replay() {
 }
 each_refusal_of_replay examples/replay/informs.lines examples/replay/informs.replies
 each_refusal_of_replay examples/replay/leases.lines examples/replay/leases.replies
-for folder in crates/cases/data/examples/*/; do
+for folder in cases/examples/*/; do
     each_refusal_of_replay "$folder/events.lines" "$folder/replies.lines" \
         --config "$folder/config.json" --token-dir "$folder"
 done

@@ -86,6 +86,31 @@ fn expect_numbers(rt: &impl Abort, alloc: Global, files: &[TokenFile]) {
     }
 }
 
+// Returns the fault of a configuration with a class of the token file `t`, or `none`.
+fn fault_text(alloc: Global, files: &[TokenFile]) -> Result<String, AllocError> {
+    let text = r#"{"Dhcp4":{"server-address":"192.0.2.1","client-classes":[{"name":"A","tokens":"t"}]}}"#;
+    match Config::read(alloc, text.as_bytes(), files) {
+        Ok(_) => String::from_str(alloc, "none"),
+        Err(fault) => format!(in alloc; "{fault}"),
+    }
+}
+
+// Returns the same where two files have this name.
+fn fault_of_both(alloc: Global, first: &[u8], second: &[u8]) -> Result<String, AllocError> {
+    let files = [file(alloc, b"t", first)?, file(alloc, b"t", second)?];
+    fault_text(alloc, &files)
+}
+
+// No folder has two files with one name, so no case shows this.
+#[test]
+fn of_token_files_with_one_name_the_first_counts(rt: HostRuntime) -> Result<(), Fail> {
+    let well = fault_of_both(rt.alloc(), HAS_CLIENT, b"")?;
+    assert!(rt; well.as_str() == "none");
+    let badly = fault_of_both(rt.alloc(), b"K4TX", HAS_CLIENT)?;
+    assert!(rt; badly.as_str() == "Tokens 0 Magic");
+    Ok(())
+}
+
 // If a memory request is refused, the call reports it; the same call repeated gives the same as
 // with enough memory.
 #[test]

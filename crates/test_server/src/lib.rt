@@ -1,6 +1,6 @@
 //! Tests of the server by what only values can show: an allocator that refuses, files and folders,
 //! sources and sinks that fail in mid-stream, sockets, and the order in which things happen.
-//! Everything else is data: `cases/data`.
+//! Everything else is data: `cases`.
 //!
 //! They are separate from `test_texts`, because the crates tested there are below the server's.
 #![tactic(auto)]
