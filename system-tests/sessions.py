@@ -13,7 +13,7 @@ NO_NAME = "an included file has only names and comments"
 NAMED_TWICE = "this name has a text already"
 NO_FILE = "there is no such file"
 # No session takes longer, in seconds.
-LONGEST = 30
+LONGEST = 120
 # The commands that have a socket or a clock, which the library of cases-host.c then gives them.
 ON_A_HOST = ("serve", "check")
 # The longest argument that Linux hands to a program. A longer one is put into a file, which that library reads.
