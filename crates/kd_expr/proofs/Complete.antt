@@ -6,10 +6,15 @@ use Rattle.kd_expr.specs.Reading as reading
 use Rattle.kd_expr.specs.Reading.{Reader, Deeper, on_ok, seq, either, one, done, sign_at, word_at, sign_here, word_here, code_of_option, code_of_relay, field_of, signed, length_of_part, class_name, bracketed, option_at, relay_at, field_after, packet_at, member_at, operand_then, operand_in_brackets, group_at, operands_in_brackets, ifelse_at, substring_after, form_at, named_at, primary_at, sum_of, and_of, or_of, sum_at, compare_at, not_at, and_at, or_at, operands_joined, chain}
 use Rattle.kd_expr.specs.declared.fault.SyntaxFault.{SyntaxFault}
 use Rattle.kd_expr.specs.Tree.{Tree, Member, Group, IfElse, Substring}
+use Rattle.kd_expr.proofs.Options.{ok_pair, err_is}
 
 -- the reader gives this, and leaves the rest
 abbrev pub Answers : {A : Type 0} → Result (A × List Lexeme) SyntaxFault → A → List Lexeme → Type 0
 Answers {A} o a rest = ◌≡◌ {A = Result (A × List Lexeme) SyntaxFault} o (Ok (a, rest))
+
+-- the reader gives this fault
+abbrev pub Refuses : {A : Type 0} → Result (A × List Lexeme) SyntaxFault → SyntaxFault → Type 0
+Refuses {A} o fault = ◌≡◌ {A = Result (A × List Lexeme) SyntaxFault} o (Err fault)
 
 -- the first token is of this kind, and the rest follows
 abbrev pub Finds : {A : Type 0} → (Lexeme → Option A) → List Lexeme → A → List Lexeme → Type 0
@@ -41,11 +46,36 @@ joined_more : (next : Lexeme → Option ℕ) (operand : Reader Tree) (join : Tre
 unfolding operands_joined
 joined_more next operand join k a b x o end ws rest e f = rw (e, f) refl
 
--- a chain at which a further operand is refused
-pub joined_fails : (next : Lexeme → Option ℕ) (operand : Reader Tree) (join : Tree → Tree → Tree) (k : ℕ) (a : Tree) (o end : ℕ) (ts ws : List Lexeme) (fault : SyntaxFault) → 1 ≤ k → Finds next ts o ws → ◌≡◌ {A = Result (Tree × List Lexeme) SyntaxFault} (operand end ws) (Err fault) → ◌≡◌ {A = Result (Tree × List Lexeme) SyntaxFault} (operands_joined next operand join k a end ts) (Err fault)
+-- what is read is joined to what comes before
+joined_read : (read : Result (Tree × List Lexeme) SyntaxFault) (join : Tree → Tree → Tree) (more : Tree → List Lexeme → Result (Tree × List Lexeme) SyntaxFault) (a t : Tree) (rest : List Lexeme) → Answers (on_ok read (λ x. Ok (join a x.0, x.1))) t rest → ◌≡◌ {A = Result (Tree × List Lexeme) SyntaxFault} (on_ok read (λ x. more (join a x.0) x.1)) (more t rest)
+joined_read (Err fault) join more a t rest e = err_is e
+joined_read (Ok x) join more a t rest e = let p = ok_pair e in rw (p.0, p.1) refl
+
+-- nothing is read, so nothing is joined
+joined_none : (read : Result (Tree × List Lexeme) SyntaxFault) (join : Tree → Tree → Tree) (more : Tree → List Lexeme → Result (Tree × List Lexeme) SyntaxFault) (a : Tree) (fault : SyntaxFault) → Refuses (on_ok read (λ x. Ok (join a x.0, x.1))) fault → Refuses (on_ok read (λ x. more (join a x.0) x.1)) fault
+joined_none (Err other) join more a fault e = e
+joined_none (Ok x) join more a fault e = err_is (sym e)
+
+-- a chain's loop has its first operand in hand
+pub chain_begins : (next : Lexeme → Option ℕ) (operand : Reader Tree) (join : Tree → Tree → Tree) (n end : ℕ) (ts rest : List Lexeme) (t : Tree) → n ≤ length rest → Answers (operand end ts) t rest → (k : ℕ) × (n ≤ k) × (chain next operand join end ts ≡ operands_joined next operand join k t end rest)
+unfolding chain
+chain_begins next operand join n end ts rest t fits e = (length rest, fits, rw e refl)
+
+-- a chain's loop goes on with a further operand
+pub chain_goes_on : (r : Result (Tree × List Lexeme) SyntaxFault) (next : Lexeme → Option ℕ) (operand : Reader Tree) (join : Tree → Tree → Tree) (k n : ℕ) (a t : Tree) (o end : ℕ) (ts ws rest : List Lexeme) → n < k → r ≡ operands_joined next operand join k a end ts → Finds next ts o ws → Answers (seq operand (λ b. done (join a b)) end ws) t rest → (j : ℕ) × (n ≤ j) × (r ≡ operands_joined next operand join j t end rest)
 unfolding operands_joined
-joined_fails next operand join zero a o end ts ws fault least e f = absurd (omega (arith, least))
-joined_fails next operand join (suc k) a o end ts ws fault least e f = rw (e, f) refl
+chain_goes_on r next operand join zero n a t o end ts ws rest least is found e = absurd (omega (arith, least))
+chain_goes_on r next operand join (suc k) n a t o end ts ws rest least is found e =
+    let step : operands_joined next operand join (suc k) a end ts ≡ operands_joined next operand join k t end rest
+    = rw found (joined_read (operand end ws) join (λ b us. operands_joined next operand join k b end us) a t rest e) in
+    (k, omega (arith, least), is ∙ step)
+
+-- a chain at which a further operand is refused
+pub chain_fails : (next : Lexeme → Option ℕ) (operand : Reader Tree) (join : Tree → Tree → Tree) (k : ℕ) (a : Tree) (o end : ℕ) (ts ws : List Lexeme) (fault : SyntaxFault) → 1 ≤ k → Finds next ts o ws → Refuses (seq operand (λ b. done (join a b)) end ws) fault → Refuses (operands_joined next operand join k a end ts) fault
+unfolding operands_joined
+chain_fails next operand join zero a o end ts ws fault least found e = absurd (omega (arith, least))
+chain_fails next operand join (suc k) a o end ts ws fault least found e =
+    rw found (joined_none (operand end ws) join (λ b us. operands_joined next operand join k b end us) a fault e)
 
 chain_more_at : (r : Reader Tree) (next : Lexeme → Option ℕ) (operand : Reader Tree) (join : Tree → Tree → Tree) (end : ℕ) (ts : List Lexeme) (k : ℕ) (a b : Tree) (x : Lexeme) (o : ℕ) (ws rest : List Lexeme) → suc (length ws) ≤ k → r end ts ≡ operands_joined next operand join k a end (x ∷ ws) → Finds next (x ∷ ws) o ws → Answers (operand end ws) b rest → length rest ≤ length ws → InHand r next operand join end ts rest (join a b)
 chain_more_at r next operand join end ts zero a b x o ws rest enough is e f fits = absurd (omega (arith, enough))

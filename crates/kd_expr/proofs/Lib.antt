@@ -3,6 +3,9 @@ pub mod Sound
 pub mod Tokens
 pub mod Readings
 pub mod Complete
+pub mod Joints
+pub mod Operands
+pub mod Ranks
 pub mod Productions
 pub mod Numbers
 pub mod Spans

@@ -10,5 +10,6 @@ pub mod Size
 pub mod Typing
 pub mod Gives
 pub mod View
+pub mod Joints
 pub mod Refusals
 pub mod FirstFault

@@ -1,6 +1,8 @@
-ghost use Rattle.std.specs.Prelude.{◌≡◌, ◌≤◌, IfOk, length, codes, bytes_eq};
+ghost use Rattle.std.specs.Prelude.{◌≡◌, ◌≤◌, ℤ, Option, IfOk, length, codes, bytes_eq};
 ghost use Rattle.kd_expr.specs.Gives.{ReadsAs};
-ghost use Rattle.kd_expr.specs.Reading.{below, named_at, form_at, operand_then, operand_in_brackets, operands_in_brackets, ifelse_at, substring_after};
+ghost use Rattle.kd_expr.specs.Reading.{below, done, named_at, form_at, operand_then, operand_in_brackets, operands_in_brackets, ifelse_at, length_of_part, seq, sign_here, signed, substring_after, wanted};
+ghost use Rattle.kd_expr.specs.Refusals.{signed_refusal};
+ghost use Rattle.kd_expr.specs.Tree.{Tree};
 ghost use Rattle.kd_expr.specs.View.{lexemes, sign_byte, tree_of};
 
 use crate::fault::SyntaxFault;
@@ -99,7 +101,22 @@ pub(crate) fn operand_before<'t, 'a>(
     ensures shorter { IfOk result (λ x. length x.1.now ≤ length tokens.now) }
 {
     let (operand, rest) = any_deeper(source, tokens, depth, bracket)?;
-    let (_, rest) = expect_sign(rest, wanted, source.end)?;
+    box_before(source, operand, rest, wanted)
+}
+
+// Takes the sign that must follow an operand, and puts the operand in a box.
+fn box_before<'t, 'a>(
+    source: Source,
+    operand: Node,
+    tokens: &'t [Token<'a>],
+    wanted: Sign,
+) -> Result<(Box<Node>, &'t [Token<'a>]), SyntaxFault>
+    ensures reads { ReadsAs (λ x. (tree_of x.0.value, lexemes x.1.now)) result
+        (seq (sign_here (sign_byte wanted)) (λ _. done (tree_of operand)) source.end
+        (lexemes tokens.now)) }
+    ensures shorter { IfOk result (λ x. length x.1.now ≤ length tokens.now) }
+{
+    let (_, rest) = expect_sign(tokens, wanted, source.end)?;
     Ok((Box::new(source.alloc, operand)?, rest))
 }
 
@@ -132,8 +149,25 @@ fn two_operands<'t, 'a>(
     ensures shorter { IfOk result (λ x. length x.2.now ≤ length tokens.now) }
 {
     let (open, rest) = expect_sign(tokens, Sign::Open, source.end)?;
-    let (first, rest) = operand_before(source, rest, depth, open, Sign::Comma)?;
-    let (second, rest) = operand_before(source, rest, depth, open, Sign::Close)?;
+    two_before(source, rest, depth, open)
+}
+
+// Reads two operands after the bracket at this place, and the closing bracket after them.
+#[cycle(parser)]
+fn two_before<'t, 'a>(
+    source: Source,
+    tokens: &'t [Token<'a>],
+    depth: u8,
+    bracket: usize,
+) -> Result<(Box<Node>, Box<Node>, &'t [Token<'a>]), SyntaxFault>
+    ensures reads { ReadsAs (λ x. ((tree_of x.0.value, tree_of x.1.value), lexemes x.2.now)) result
+        (seq {B = Tree × Tree} (operand_then (below depth) bracket 44)
+        (λ a. seq (operand_then (below depth) bracket 41) (λ b. done (a, b))) source.end
+        (lexemes tokens.now)) }
+    ensures shorter { IfOk result (λ x. length x.2.now ≤ length tokens.now) }
+{
+    let (first, rest) = operand_before(source, tokens, depth, bracket, Sign::Comma)?;
+    let (second, rest) = operand_before(source, rest, depth, bracket, Sign::Close)?;
     Ok((first, second, rest))
 }
 
@@ -152,8 +186,7 @@ fn ifelse_of<'t, 'a>(
 {
     let (open, rest) = expect_sign(tokens, Sign::Open, source.end)?;
     let (test, rest) = operand_before(source, rest, depth, open, Sign::Comma)?;
-    let (yes, rest) = operand_before(source, rest, depth, open, Sign::Comma)?;
-    let (no, rest) = operand_before(source, rest, depth, open, Sign::Close)?;
+    let (yes, no, rest) = two_before(source, rest, depth, open)?;
     Ok((Node::IfElse { at, test, yes, no }, rest))
 }
 
@@ -172,10 +205,7 @@ fn substring_of<'t, 'a>(
 {
     let (open, rest) = expect_sign(tokens, Sign::Open, source.end)?;
     let (operand, rest) = operand_before(source, rest, depth, open, Sign::Comma)?;
-    let (start, rest) = signed_of(rest, source.end)?;
-    let (_, rest) = expect_sign(rest, Sign::Comma, source.end)?;
-    let (length, rest) = length_of(rest, source.end)?;
-    let (_, rest) = expect_sign(rest, Sign::Close, source.end)?;
+    let (start, length, rest) = part_before(source, rest)?;
     Ok((
         Node::Substring {
             at,
@@ -185,4 +215,24 @@ fn substring_of<'t, 'a>(
         },
         rest,
     ))
+}
+
+// Reads the start and the length of a part, and the closing bracket after them.
+fn part_before<'t, 'a>(
+    source: Source,
+    tokens: &'t [Token<'a>],
+) -> Result<(i32, Option<i32>, &'t [Token<'a>]), SyntaxFault>
+    ensures reads { (node : ℤ → Option ℤ → Tree)
+        → ReadsAs (λ x. (node x.0 x.1, lexemes x.2.now)) result
+        (seq (wanted signed signed_refusal)
+        (λ start. seq (sign_here 44) (λ _. seq (wanted length_of_part signed_refusal)
+        (λ len. seq (sign_here 41) (λ _. done (node start len))))) source.end
+        (lexemes tokens.now)) }
+    ensures shorter { IfOk result (λ x. length x.2.now ≤ length tokens.now) }
+{
+    let (start, rest) = signed_of(tokens, source.end)?;
+    let (_, rest) = expect_sign(rest, Sign::Comma, source.end)?;
+    let (length, rest) = length_of(rest, source.end)?;
+    let (_, rest) = expect_sign(rest, Sign::Close, source.end)?;
+    Ok((start, length, rest))
 }

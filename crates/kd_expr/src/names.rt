@@ -1,7 +1,9 @@
-ghost use Rattle.std.specs.Prelude.{◌≡◌, ◌≤◌, ◌<◌, IfOk, length, codes, bytes_eq};
+ghost use Rattle.std.specs.Prelude.{◌≡◌, ℕ, Bool, ◌≤◌, ◌<◌, ◌^◌, pos, IfOk, Some, None, length, codes, bytes_eq, nat_lt, nat_le, if◌then◌else◌};
+ghost use Rattle.kd_expr.specs.Address.{decimal};
 ghost use Rattle.kd_expr.specs.Gives.{ReadsAs};
+ghost use Rattle.kd_expr.specs.Grammar.{minus};
 ghost use Rattle.kd_expr.specs.Names.{code_by_name, field_by_name};
-ghost use Rattle.kd_expr.specs.Reading.{below, wanted, bracketed, code_of_option, code_of_relay, suffix_of, field_of, signed, length_of_part, class_name, option_at, relay_at, field_after, packet_at, member_at};
+ghost use Rattle.kd_expr.specs.Reading.{below, wanted, bracketed, seq, done, sign_here, code_of_option, code_of_relay, suffix_of, field_of, signed, length_of_part, class_name, option_at, relay_at, field_after, packet_at, member_at};
 ghost use Rattle.kd_expr.specs.Refusals.{code_refusal, option_refusal, refusal_of, signed_refusal};
 ghost use Rattle.kd_expr.specs.View.{lexemes, tree_of};
 
@@ -27,9 +29,7 @@ pub(crate) fn option_of<'t, 'a>(
 {
     let (_, rest) = expect_sign(tokens, Sign::Left, source.end)?;
     let (code, rest) = option_code(rest, source.end)?;
-    let (_, rest) = expect_sign(rest, Sign::Right, source.end)?;
-    let (_, rest) = expect_sign(rest, Sign::Dot, source.end)?;
-    let (exists, rest) = suffix(rest, source.end)?;
+    let (code, exists, rest) = with_suffix(code, rest, source.end)?;
     if exists {
         Ok((Node::OptionExists { at, code }, rest))
     } else {
@@ -50,9 +50,7 @@ pub(crate) fn relay_of<'t, 'a>(
 {
     let (_, rest) = expect_sign(tokens, Sign::Left, source.end)?;
     let (code, rest) = relay_code(rest, source.end)?;
-    let (_, rest) = expect_sign(rest, Sign::Right, source.end)?;
-    let (_, rest) = expect_sign(rest, Sign::Dot, source.end)?;
-    let (exists, rest) = suffix(rest, source.end)?;
+    let (code, exists, rest) = with_suffix(code, rest, source.end)?;
     if exists {
         Ok((Node::RelayExists { at, code }, rest))
     } else {
@@ -190,6 +188,24 @@ fn relay_code<'t, 'a>(
     }
 }
 
+// Reads what follows a code, and returns the code with whether `exists` or `hex` follows it.
+fn with_suffix<'t, 'a>(
+    code: u8,
+    tokens: &'t [Token<'a>],
+    end: usize,
+) -> Result<(u8, bool, &'t [Token<'a>]), SyntaxFault>
+    ensures reads { ReadsAs (λ x. ((x.0, x.1), lexemes x.2.now)) result
+        (seq {B = ℕ × Bool} (sign_here 93) (λ _. seq (sign_here 46)
+        (λ _. seq (wanted suffix_of refusal_of) (λ exists. done (code, exists)))) end
+        (lexemes tokens.now)) }
+    ensures shorter { IfOk result (λ x. length x.2.now < length tokens.now) }
+{
+    let (_, rest) = expect_sign(tokens, Sign::Right, end)?;
+    let (_, rest) = expect_sign(rest, Sign::Dot, end)?;
+    let (exists, rest) = suffix(rest, end)?;
+    Ok((code, exists, rest))
+}
+
 // Reads `exists` (true) or `hex` (false).
 fn suffix<'t, 'a>(
     tokens: &'t [Token<'a>],
@@ -246,16 +262,38 @@ pub(crate) fn signed_of<'t, 'a>(
     };
     let token = *first;
     match token.kind {
-        Kind::Number(digits) => match number(digits) {
-            Some(n) if n < 1 << 31 => Ok((n as i32, rest)),
-            _ => Err(SyntaxFault::NumberTooLarge(token.at)),
+        Kind::Number(digits) => match not_below_zero(digits) {
+            Some(n) => Ok((n, rest)),
+            None => Err(SyntaxFault::NumberTooLarge(token.at)),
         },
-        Kind::Minus(digits) => match number(digits) {
-            Some(0) => Ok((0, rest)),
-            Some(n) if n <= 1 << 31 => Ok((-((n - 1) as i32) - 1, rest)),
-            _ => Err(SyntaxFault::NumberTooLarge(token.at)),
+        Kind::Minus(digits) => match below_zero(digits) {
+            Some(n) => Ok((n, rest)),
+            None => Err(SyntaxFault::NumberTooLarge(token.at)),
         },
         _ => Err(unexpected_token(tokens, end)),
+    }
+}
+
+// Returns the number that decimal digits give, if it is less than 2^31.
+fn not_below_zero(digits: &[u8]) -> Option<i32>
+    ensures { result ≡ (if nat_lt (decimal digits.now) (2 ^ 31) then Some
+        (pos (decimal digits.now)) else None) }
+{
+    match number(digits) {
+        Some(n) if n < 1 << 31 => Some(n as i32),
+        _ => None,
+    }
+}
+
+// Returns the number that decimal digits give after a minus sign, if it is at least -2^31.
+fn below_zero(digits: &[u8]) -> Option<i32>
+    ensures { result ≡ (if nat_le (decimal digits.now) (2 ^ 31) then Some
+        (minus (decimal digits.now)) else None) }
+{
+    match number(digits) {
+        Some(0) => Some(0),
+        Some(n) if n <= 1 << 31 => Some(-((n - 1) as i32) - 1),
+        _ => None,
     }
 }
 

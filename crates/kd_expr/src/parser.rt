@@ -1,8 +1,10 @@
-ghost use Rattle.std.specs.Prelude.{◌≡◌, ◌≤◌, ◌<◌, IfOk, MatchResult, length, codes, bytes_eq};
+ghost use Rattle.std.specs.Prelude.{◌≡◌, ◌≤◌, ◌<◌, IfOk, IfSome, List, MatchResult, Ok, length, codes, bytes_eq, option_map};
 ghost use Rattle.kd_expr.specs.Gives.{ReadsAs};
-ghost use Rattle.kd_expr.specs.Reading.{below, or_at, and_at, not_at, compare_at, sum_at, primary_at, group_at};
-ghost use Rattle.kd_expr.specs.Reading as reading;
-ghost use Rattle.kd_expr.specs.Tree.{Equal, Not, at_of};
+ghost use Rattle.kd_expr.specs.Grammar.{hex_bytes};
+ghost use Rattle.kd_expr.specs.Joints.{joint_at, operand_at, tree_joined};
+ghost use Rattle.kd_expr.specs.Lexical.{Lexeme};
+ghost use Rattle.kd_expr.specs.Reading.{below, chain, compare_at, done, group_at, not_at, one, primary_at, seq};
+ghost use Rattle.kd_expr.specs.Tree.{Literal, Not, Tree, at_of};
 ghost use Rattle.kd_expr.specs.View.{lexemes, tree_of};
 ghost use Rattle.kd_expr.specs.declared.fault.SyntaxFault.TheVariants as faults;
 
@@ -22,6 +24,19 @@ pub(crate) struct Source {
     pub(crate) end: usize,
 }
 
+// What joins two operands.
+#[derive(Clone, Copy)]
+pub(crate) enum Joint {
+    // `or`
+    Or,
+    // `and`
+    And,
+    // `==`
+    Equals,
+    // `+`
+    Plus,
+}
+
 // Puts two operands in boxes, and returns them with the place of the first.
 fn box_node(
     alloc: Global,
@@ -37,44 +52,19 @@ fn box_node(
     Ok((at, left, Box::new(alloc, right)?))
 }
 
-// Makes a disjunction of two operands.
-fn disjunction(alloc: Global, left: Node, right: Node) -> Result<Node, SyntaxFault>
+// Makes two operands the node of their joint, at the place of the first.
+fn joined(alloc: Global, joint: Joint, left: Node, right: Node) -> Result<Node, SyntaxFault>
     ensures { MatchResult result
-        (λ node. tree_of node ≡ reading.or_of (tree_of left) (tree_of right))
+        (λ node. tree_of node ≡ tree_joined joint (tree_of left) (tree_of right))
         (λ fault. fault ≡ faults.Memory) }
 {
     let (at, left, right) = box_node(alloc, left, right)?;
-    Ok(Node::Or { at, left, right })
-}
-
-// Makes a conjunction of two operands.
-fn conjunction(alloc: Global, left: Node, right: Node) -> Result<Node, SyntaxFault>
-    ensures { MatchResult result
-        (λ node. tree_of node ≡ reading.and_of (tree_of left) (tree_of right))
-        (λ fault. fault ≡ faults.Memory) }
-{
-    let (at, left, right) = box_node(alloc, left, right)?;
-    Ok(Node::And { at, left, right })
-}
-
-// Makes a concatenation of two operands.
-fn concatenation(alloc: Global, left: Node, right: Node) -> Result<Node, SyntaxFault>
-    ensures { MatchResult result
-        (λ node. tree_of node ≡ reading.sum_of (tree_of left) (tree_of right))
-        (λ fault. fault ≡ faults.Memory) }
-{
-    let (at, left, right) = box_node(alloc, left, right)?;
-    Ok(Node::Concat { at, left, right })
-}
-
-// Makes a comparison of two operands.
-fn equality(alloc: Global, left: Node, right: Node) -> Result<Node, SyntaxFault>
-    ensures { MatchResult result
-        (λ node. tree_of node ≡ Equal (at_of (tree_of left)) (tree_of left) (tree_of right))
-        (λ fault. fault ≡ faults.Memory) }
-{
-    let (at, left, right) = box_node(alloc, left, right)?;
-    Ok(Node::Equal { at, left, right })
+    match joint {
+        Joint::Or => Ok(Node::Or { at, left, right }),
+        Joint::And => Ok(Node::And { at, left, right }),
+        Joint::Equals => Ok(Node::Equal { at, left, right }),
+        Joint::Plus => Ok(Node::Concat { at, left, right }),
+    }
 }
 
 // Makes the negation of an operand, at this place.
@@ -86,47 +76,80 @@ fn negation(alloc: Global, at: usize, operand: Node) -> Result<Node, SyntaxFault
     Ok(Node::Not { at, operand })
 }
 
-// Reads a disjunction, which is any expression. `depth` is how many more brackets and `not`s may be
-// nested.
+// Takes this joint if it comes next, and returns its place and the remaining tokens.
+fn joint_next<'t, 'a>(rest: &'t [Token<'a>], wanted: Joint) -> Option<(usize, &'t [Token<'a>])>
+    ensures reads { option_map (λ x. (x.0, lexemes x.1.now)) result
+        ≡ one (joint_at wanted) (lexemes rest.now) }
+    ensures shorter { IfSome result (λ x. length x.1.now < length rest.now) }
+{
+    match wanted {
+        Joint::Or => word(rest, b"or"),
+        Joint::And => word(rest, b"and"),
+        Joint::Equals => sign(rest, Sign::Equals),
+        Joint::Plus => sign(rest, Sign::Plus),
+    }
+}
+
+// Reads operands with this joint between them, or just one. `depth` is how many more brackets and
+// `not`s may be nested. With `or` it is any expression.
 #[cycle(parser)]
-#[tactic(auto, unfolding(crate::specs::Reading::or_at, crate::specs::Reading::chain, crate::specs::Reading::operands_joined))]
-pub(crate) fn or_of<'t, 'a>(
+#[tactic(auto, unfolding(crate::specs::Reading::chain))]
+pub(crate) fn chain_of<'t, 'a>(
     source: Source,
+    joint: Joint,
     tokens: &'t [Token<'a>],
     depth: u8,
 ) -> Result<(Node, &'t [Token<'a>]), SyntaxFault>
     ensures reads { ReadsAs (λ x. (tree_of x.0, lexemes x.1.now)) result
-        (or_at (below depth) source.end (lexemes tokens.now)) }
+        (chain (joint_at joint) (operand_at joint (below depth)) (tree_joined joint) source.end
+        (lexemes tokens.now)) }
     ensures shorter { IfOk result (λ x. length x.1.now ≤ length tokens.now) }
 {
-    let (mut first, mut rest) = and_of(source, tokens, depth)?;
-    while let Some((_, after)) = word(rest, b"or") {
-        let (next, behind) = and_of(source, after, depth)?;
-        first = disjunction(source.alloc, first, next)?;
+    let (mut first, mut rest) = operand_of(source, joint, tokens, depth)?;
+    while let Some((_, after)) = joint_next(rest, joint) {
+        let (longer, behind) = joined_to(source, joint, first, after, depth)?;
+        first = longer;
         rest = behind;
     }
     Ok((first, rest))
 }
 
-// Reads a conjunction.
+// Reads one operand of this joint.
 #[cycle(parser)]
-#[tactic(auto, unfolding(crate::specs::Reading::and_at, crate::specs::Reading::chain, crate::specs::Reading::operands_joined))]
-fn and_of<'t, 'a>(
+fn operand_of<'t, 'a>(
     source: Source,
+    joint: Joint,
     tokens: &'t [Token<'a>],
     depth: u8,
 ) -> Result<(Node, &'t [Token<'a>]), SyntaxFault>
     ensures reads { ReadsAs (λ x. (tree_of x.0, lexemes x.1.now)) result
-        (and_at (below depth) source.end (lexemes tokens.now)) }
+        (operand_at joint (below depth) source.end (lexemes tokens.now)) }
     ensures shorter { IfOk result (λ x. length x.1.now ≤ length tokens.now) }
 {
-    let (mut first, mut rest) = not_of(source, tokens, depth)?;
-    while let Some((_, after)) = word(rest, b"and") {
-        let (next, behind) = not_of(source, after, depth)?;
-        first = conjunction(source.alloc, first, next)?;
-        rest = behind;
+    match joint {
+        Joint::Or => chain_of(source, Joint::And, tokens, depth),
+        Joint::And => not_of(source, tokens, depth),
+        Joint::Equals => chain_of(source, Joint::Plus, tokens, depth),
+        Joint::Plus => primary_of(source, tokens, depth),
     }
-    Ok((first, rest))
+}
+
+// Reads the operand after a joint, and joins it to the first.
+#[cycle(parser)]
+fn joined_to<'t, 'a>(
+    source: Source,
+    joint: Joint,
+    first: Node,
+    after: &'t [Token<'a>],
+    depth: u8,
+) -> Result<(Node, &'t [Token<'a>]), SyntaxFault>
+    ensures reads { ReadsAs (λ x. (tree_of x.0, lexemes x.1.now)) result
+        (seq (operand_at joint (below depth)) (λ b. done (tree_joined joint (tree_of first) b))
+        source.end (lexemes after.now)) }
+    ensures shorter { IfOk result (λ x. length x.1.now ≤ length after.now) }
+{
+    let (next, behind) = operand_of(source, joint, after, depth)?;
+    Ok((joined(source.alloc, joint, first, next)?, behind))
 }
 
 // Reads a negation or a comparison.
@@ -162,35 +185,11 @@ fn compare_of<'t, 'a>(
         (compare_at (below depth) source.end (lexemes tokens.now)) }
     ensures shorter { IfOk result (λ x. length x.1.now ≤ length tokens.now) }
 {
-    let (first, rest) = sum_of(source, tokens, depth)?;
-    match sign(rest, Sign::Equals) {
-        Some((_, after)) => {
-            let (second, behind) = sum_of(source, after, depth)?;
-            Ok((equality(source.alloc, first, second)?, behind))
-        }
+    let (first, rest) = operand_of(source, Joint::Equals, tokens, depth)?;
+    match joint_next(rest, Joint::Equals) {
+        Some((_, after)) => joined_to(source, Joint::Equals, first, after, depth),
         None => Ok((first, rest)),
     }
-}
-
-// Reads a sum of byte strings.
-#[cycle(parser)]
-#[tactic(auto, unfolding(crate::specs::Reading::sum_at, crate::specs::Reading::chain, crate::specs::Reading::operands_joined))]
-fn sum_of<'t, 'a>(
-    source: Source,
-    tokens: &'t [Token<'a>],
-    depth: u8,
-) -> Result<(Node, &'t [Token<'a>]), SyntaxFault>
-    ensures reads { ReadsAs (λ x. (tree_of x.0, lexemes x.1.now)) result
-        (sum_at (below depth) source.end (lexemes tokens.now)) }
-    ensures shorter { IfOk result (λ x. length x.1.now ≤ length tokens.now) }
-{
-    let (mut first, mut rest) = primary_of(source, tokens, depth)?;
-    while let Some((_, after)) = sign(rest, Sign::Plus) {
-        let (next, behind) = primary_of(source, after, depth)?;
-        first = concatenation(source.alloc, first, next)?;
-        rest = behind;
-    }
-    Ok((first, rest))
 }
 
 // Reads a literal, a number, a group, or what begins with a name.
@@ -210,18 +209,9 @@ fn primary_of<'t, 'a>(
     };
     let Token { at, kind } = *token;
     match kind {
-        Kind::Text(text) => {
-            let bytes = bytes_of(source.alloc, text)?;
-            Ok((Node::Literal { at, bytes }, rest))
-        }
-        Kind::Hex(digits) => {
-            let bytes = hex_bytes_of(source.alloc, digits)?;
-            Ok((Node::Literal { at, bytes }, rest))
-        }
-        Kind::Address(a, b, c, d) => {
-            let bytes = bytes_of(source.alloc, &[a, b, c, d])?;
-            Ok((Node::Literal { at, bytes }, rest))
-        }
+        Kind::Text(text) => literal_of(source.alloc, at, text, rest),
+        Kind::Hex(digits) => hex_literal_of(source.alloc, at, digits, rest),
+        Kind::Address(a, b, c, d) => literal_of(source.alloc, at, &[a, b, c, d], rest),
         Kind::Number(digits) => match number(digits) {
             Some(value) => Ok((Node::Int { at, value }, rest)),
             None => Err(SyntaxFault::NumberTooLarge(at)),
@@ -230,6 +220,36 @@ fn primary_of<'t, 'a>(
         Kind::Sign(_) => group_of(source, tokens, depth),
         Kind::Minus(_) | Kind::Bad => Err(unexpected_token(tokens, source.end)),
     }
+}
+
+// Makes a literal of these bytes, with the tokens after it.
+fn literal_of<'t, 'a>(
+    alloc: Global,
+    at: usize,
+    bytes: &[u8],
+    rest: &'t [Token<'a>],
+) -> Result<(Node, &'t [Token<'a>]), SyntaxFault>
+    ensures reads { ReadsAs {B = Tree × List Lexeme} (λ x. (tree_of x.0, lexemes x.1.now)) result
+        (Ok (Literal at bytes.now, lexemes rest.now)) }
+    ensures shorter { IfOk result (λ x. length x.1.now ≤ length rest.now) }
+{
+    let bytes = bytes_of(alloc, bytes)?;
+    Ok((Node::Literal { at, bytes }, rest))
+}
+
+// Makes a literal of these hexadecimal digits, with the tokens after it.
+fn hex_literal_of<'t, 'a>(
+    alloc: Global,
+    at: usize,
+    digits: &[u8],
+    rest: &'t [Token<'a>],
+) -> Result<(Node, &'t [Token<'a>]), SyntaxFault>
+    ensures reads { ReadsAs {B = Tree × List Lexeme} (λ x. (tree_of x.0, lexemes x.1.now)) result
+        (Ok (Literal at (hex_bytes digits.now), lexemes rest.now)) }
+    ensures shorter { IfOk result (λ x. length x.1.now ≤ length rest.now) }
+{
+    let bytes = hex_bytes_of(alloc, digits)?;
+    Ok((Node::Literal { at, bytes }, rest))
 }
 
 // Reads an expression in brackets.
@@ -265,7 +285,7 @@ pub(crate) fn any_deeper<'t, 'a>(
     if depth == 0 {
         return Err(SyntaxFault::TooNested(at));
     }
-    or_of(source, tokens, depth - 1)
+    chain_of(source, Joint::Or, tokens, depth - 1)
 }
 
 // Reads the operand of the `not` at this place, which nests it one level deeper.

@@ -12,7 +12,7 @@ use crate::expr::{Expr, expr_of};
 use crate::fault::{ExprFault, SyntaxFault, seen_outside};
 use crate::lexer::tokens_of;
 use crate::node::Node;
-use crate::parser::{Source, or_of};
+use crate::parser::{Joint, Source, chain_of};
 use crate::take::unexpected_token;
 use std::alloc::Global;
 
@@ -46,7 +46,7 @@ pub fn read(alloc: Global, text: &[u8]) -> Result<Expr, ExprFault>
 }
 
 // Returns the tree of all tokens of a text.
-#[tactic(auto, unfolding(crate::specs::Reading::whole_at))]
+#[tactic(auto, unfolding(crate::specs::Reading::whole_at, crate::specs::Reading::or_at))]
 fn node_in(alloc: Global, text: &[u8]) -> Result<Node, SyntaxFault>
     ensures { ReadsAs tree_of result
         (whole_at (length text.now) (tokens_from (length text.now) 0 text.now)) }
@@ -56,7 +56,7 @@ fn node_in(alloc: Global, text: &[u8]) -> Result<Node, SyntaxFault>
         alloc,
         end: text.len(),
     };
-    let (tree, rest) = or_of(source, tokens.as_slice(), DEEPEST_NESTING)?;
+    let (tree, rest) = chain_of(source, Joint::Or, tokens.as_slice(), DEEPEST_NESTING)?;
     match rest {
         [] => Ok(tree),
         _ => Err(unexpected_token(rest, source.end)),
