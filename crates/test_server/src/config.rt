@@ -88,7 +88,8 @@ fn expect_numbers(rt: &impl Abort, alloc: Global, files: &[TokenFile]) {
 
 // Returns the fault of a configuration with a class of the token file `t`, or `none`.
 fn fault_text(alloc: Global, files: &[TokenFile]) -> Result<String, AllocError> {
-    let text = r#"{"Dhcp4":{"server-address":"192.0.2.1","client-classes":[{"name":"A","tokens":"t"}]}}"#;
+    let text =
+        r#"{"Dhcp4":{"server-address":"192.0.2.1","client-classes":[{"name":"A","tokens":"t"}]}}"#;
     match Config::read(alloc, text.as_bytes(), files) {
         Ok(_) => String::from_str(alloc, "none"),
         Err(fault) => format!(in alloc; "{fault}"),
