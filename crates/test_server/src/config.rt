@@ -79,10 +79,10 @@ fn number_of(alloc: Global, text: &str, files: &[TokenFile]) -> Option<u8> {
 
 // Checks the faults of those texts, each of which is read twice.
 fn expect_numbers(rt: &impl Abort, alloc: Global, files: &[TokenFile]) {
-    for (text, want) in ROWS {
+    for (text, want) in &ROWS {
         let first = number_of(alloc, text, files);
-        assert!(rt; first == want || first == Some(91));
-        assert!(rt; number_of(alloc, text, files) == want);
+        assert!(rt; first == *want || first == Some(91));
+        assert!(rt; number_of(alloc, text, files) == *want);
     }
 }
 

@@ -83,8 +83,8 @@ fn expect_lengths(rt: &HostRuntime, folder: &str) -> Result<(), Fail> {
 
 // Checks the limits of the file at a path.
 fn expect_rows(rt: &HostRuntime, path: &str) -> Result<(), Fail> {
-    for (length, most, fits) in LIMITS {
-        let is_so = is_read(rt, path, length, most)? == fits;
+    for (length, most, fits) in &LIMITS {
+        let is_so = is_read(rt, path, *length, *most)? == *fits;
         expect(is_so, "whether a file of that length is read")?;
     }
     Ok(())

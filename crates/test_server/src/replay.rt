@@ -1,6 +1,5 @@
 use crate::doubles::{Giving, Keeping};
-use crate::support::{Work, with_server};
-use kd_event::Ports;
+use crate::support::{PORTS, Work, with_server};
 use kd_replay::{ReplayFault, replay_bytes};
 use kd_server::{Server, replay};
 use std::alloc::{AllocError, Global};
@@ -10,12 +9,6 @@ use test_tables::Fused;
 // How a replay reads and writes: the source returns at most this many bytes a call, and after them
 // fails or ends; the sink takes as many a call, up to a limit at which it fails.
 type Ends = (usize, bool, usize);
-
-// The ports of a server.
-const PORTS: Ports = Ports {
-    server: 67,
-    client: 68,
-};
 
 // Replays an input between such ends, and finds the result and the sink afterwards.
 #[derive(Drop)]
@@ -148,10 +141,10 @@ const CUT: [(&str, &str); 8] = [
 // Lines end at line feeds and at the end of the input, however many bytes each call returns.
 #[test]
 fn lines_are_found_in_pieces(rt: HostRuntime) -> Result<(), Fail> {
-    for (input, want) in CUT {
-        for step in [1, 2, 3, 1_000_000] {
+    for (input, want) in &CUT {
+        for step in &[1, 2, 3, 1_000_000] {
             assert!(rt;
-                answers(rt.alloc(), input, step, want)?,
+                answers(rt.alloc(), input, *step, want)?,
                 "{input} by {step}"
             );
         }
@@ -181,10 +174,10 @@ const LONG: [(usize, &str); 3] = [
 // A line has at most 131,072 bytes, however many each call returns.
 #[test]
 fn a_line_may_be_long(rt: HostRuntime) -> Result<(), Fail> {
-    for (count, want) in LONG {
-        for step in [50_000, 65_536, 1_000_000] {
+    for (count, want) in &LONG {
+        for step in &[50_000, 65_536, 1_000_000] {
             assert!(rt;
-                answers_long(rt.alloc(), count, step, want)?,
+                answers_long(rt.alloc(), *count, *step, want)?,
                 "{count} digits by {step}"
             );
         }
@@ -261,7 +254,7 @@ fn is_held(alloc: Global, input: &str, want: &str, output: &str) -> Result<bool,
 
 #[test]
 fn bytes_that_are_held_replay_to_their_lines(rt: HostRuntime) -> Result<(), Fail> {
-    for (input, want, output) in HELD {
+    for (input, want, output) in &HELD {
         assert!(rt; is_held(rt.alloc(), input, want, output)?, "{input}");
     }
     Ok(())

@@ -1,6 +1,6 @@
-use crate::support::{Work, datagram, look_at, server_of, with_server};
+use crate::support::{PORTS, Work, datagram, look_at, server_of, with_server};
 use kd_config::Config;
-use kd_event::{Event, Handled, Ports, Reason, Response};
+use kd_event::{Event, Handled, Reason, Response};
 use kd_replay::ServeFault;
 use kd_server::Server;
 use kd_wire::Bytes;
@@ -8,27 +8,21 @@ use std::alloc::{AllocError, Global};
 use std::test::Fail;
 use test_tables::Fused;
 
-// The ports of a server.
-const PORTS: Ports = Ports {
-    server: 67,
-    client: 68,
-};
-
 // Makes an INFORM from 192.0.2.77.
 fn inform(alloc: Global) -> Result<Vec<u8>, AllocError> {
     datagram(alloc, 1, [192, 0, 2, 77], 8)
 }
 
 // Reports whether a server returns its configuration when it is closed.
-fn gives_back(alloc: Global) -> Result<bool, AllocError> {
+fn gives_back(alloc: Global) -> Result<bool, ServeFault> {
     match Config::builtin(alloc) {
         Ok(config) => look_at(parts_of(alloc, config), is_given_back),
-        Err(fault) => Err(fault),
+        Err(AllocError) => Err(ServeFault::Memory),
     }
 }
 
 // Returns the configuration and the store that a server returns when it is closed.
-fn parts_of(alloc: Global, config: Config) -> Result<(Config, Fused), AllocError> {
+fn parts_of(alloc: Global, config: Config) -> Result<(Config, Fused), ServeFault> {
     server_of(alloc, config, PORTS, u64::MAX).map(Server::close)
 }
 

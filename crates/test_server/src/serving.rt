@@ -2,9 +2,9 @@
 ghost use Rattle.std.specs.Prelude.{◌≡◌, ◌<◌, ◌≤◌, IfOk, IfSome, false, length};
 
 use crate::doubles::Keeping;
-use crate::support::{Work, datagram, with_server, with_server_of};
+use crate::support::{PORTS, Work, datagram, with_server, with_server_of};
 use kd_config::Config;
-use kd_event::{Destination, Event, Ports};
+use kd_event::{Destination, Event};
 use kd_io::{Sending, Socket};
 use kd_replay::{
     EndFailed, Happening, Limits, Link, LoopFault, ServeFault, ServedBytes, serve_bytes,
@@ -23,12 +23,6 @@ use test_tables::Fused;
 const MIRRORED: Sending = Sending {
     mirror: true,
     broadcast_as: None,
-};
-
-// The ports of a server.
-const PORTS: Ports = Ports {
-    server: 67,
-    client: 68,
 };
 
 // Limits to `count` datagrams in batches of at most `most`, whatever the clock says.
@@ -381,7 +375,8 @@ const WAITING: [(u8, u64, usize); 5] = [(1, 1, 0), (2, 1, 0), (31, 1, 0), (32, 1
 // call, and each commit takes one.
 #[test]
 fn datagrams_that_wait_share_a_commit(rt: HostRuntime) -> Result<(), Fail> {
-    for (clients, commits, before) in WAITING {
+    for row in &WAITING {
+        let (clients, commits, before) = *row;
         let (served, lines) = waited(&rt, clients, commits.saturating_add(1))?;
         assert!(rt;
             served == Ok(()) && lines == usize::from(clients),

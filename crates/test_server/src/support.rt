@@ -1,11 +1,19 @@
-ghost use Rattle.std.specs.Prelude.{◌≡◌, None};
+ghost use Rattle.std.specs.Prelude.{◌≡◌, false, is_some};
 
 use kd_config::Config;
 use kd_event::Ports;
+use kd_keeps::Keeps;
+use kd_replay::ServeFault;
 use kd_server::Server;
 use std::alloc::{AllocError, Global};
 use std::test::Fail;
 use test_tables::Fused;
+
+/// The ports of DHCP.
+pub(crate) const PORTS: Ports = Ports {
+    server: 67,
+    client: 68,
+};
 
 // The bytes 236 to 239 of a datagram.
 const COOKIE: [u8; 4] = [99, 130, 83, 99];
@@ -54,15 +62,31 @@ pub(crate) fn look_at<V: Drop, E: Drop, T: Drop, F: FnOnce(&V) -> T>(
     }
 }
 
-// Returns what a use of a value gives, if the value was made.
-fn act_on<V: Drop, T: Drop, F: FnOnce(&mut V) -> Result<T, Fail>>(
-    made: Result<V, AllocError>,
+/// Returns what an action on a value finds, if the value was made.
+pub(crate) fn act_on<V: Drop, E, T, F: FnOnce(&mut V) -> T>(
+    made: Result<V, E>,
     action: F,
-) -> Result<T, Fail>
+) -> Result<T, E>
     requires { F.IsAlwaysCallable action }
 {
     match made {
-        Ok(mut value) => action(&mut value),
+        Ok(mut value) => Ok(action(&mut value)),
+        Err(fault) => Err(fault),
+    }
+}
+
+/// Returns a value as a change leaves it, if the value was made.
+pub(crate) fn changed<V: Drop, F: FnOnce(&mut V) -> Result<(), Fail>>(
+    made: Result<V, AllocError>,
+    change: F,
+) -> Result<V, Fail>
+    requires { F.IsAlwaysCallable change }
+{
+    match made {
+        Ok(mut value) => match change(&mut value) {
+            Ok(()) => Ok(value),
+            Err(fault) => Err(fault),
+        },
         Err(fault) => Err(fault.into()),
     }
 }
@@ -97,8 +121,10 @@ pub(crate) fn with_server_of<W: Work>(
     calls: u64,
     work: W,
 ) -> Result<W::Found, Fail> {
-    let made = server_of(alloc, config, ports, calls);
-    act_on(made, |server| work.done(alloc, server))
+    let made = server_of(alloc, config, ports, calls)
+        .ok()
+        .ok_or(AllocError);
+    act_on(made, |server| work.done(alloc, server))?
 }
 
 /// Makes a server with a configuration, over an empty store on which `calls` calls succeed.
@@ -107,23 +133,26 @@ pub(crate) fn server_of(
     config: Config,
     ports: Ports,
     calls: u64,
-) -> Result<Server<Fused>, AllocError> {
+) -> Result<Server<Fused>, ServeFault> {
     match Fused::new(alloc, calls) {
         Ok(store) => opened(alloc, config, store, ports),
-        Err(fault) => Err(fault),
+        Err(AllocError) => Err(ServeFault::Memory),
     }
 }
 
-// A server over a store.
-fn opened(
+/// Makes a server over a store.
+pub(crate) fn opened<S: Keeps + Drop>(
     alloc: Global,
     config: Config,
-    store: Fused,
+    store: S,
     ports: Ports,
-) -> Result<Server<Fused>, AllocError>
-    requires { store.fault ≡ None }
+) -> Result<Server<S>, ServeFault>
+    requires { is_some (S.fault store) ≡ false }
 {
-    Server::open(alloc, config, store, ports)
-        .ok()
-        .ok_or(AllocError)
+    Server::open(alloc, config, store, ports).map_err(fault_of)
+}
+
+// Returns why a server is not opened, and drops what it returns.
+fn fault_of<S: Keeps + Drop>(refusal: (ServeFault, Config, S)) -> ServeFault {
+    refusal.0
 }

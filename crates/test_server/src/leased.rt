@@ -1,14 +1,7 @@
 use crate::datagrams::identity;
-use kd_event::Ports;
 use kd_rows::{Row, State};
 use kd_wire::Bytes;
 use std::alloc::{AllocError, Global};
-
-/// The ports of DHCP.
-pub(crate) const PORTS: Ports = Ports {
-    server: 67,
-    client: 68,
-};
 
 /// Returns the address with a number in 10.0.0.0/8.
 pub(crate) fn address(number: u32) -> u32 {

@@ -1,8 +1,7 @@
-ghost use Rattle.std.specs.Prelude.{◌≡◌, None};
-
 use crate::fields::{DIRECT, Fields, bytes_of};
+use crate::support::{PORTS, act_on, server_of};
 use kd_config::Config;
-use kd_event::{Mode, Ports, Reason, Response};
+use kd_event::{Mode, Reason, Response};
 use kd_keeps::{Cause, StoreFault};
 use kd_replay::ServeFault;
 use kd_server::Server;
@@ -146,46 +145,13 @@ const LEASES: Day = &[
     ),
 ];
 
-const PORTS: Ports = Ports {
-    server: 67,
-    client: 68,
-};
-
-/// Returns what an action on a value finds, if the value was made. Code that holds a server or leases
-/// is proved against all parts of their tables; this is proved for any value, and what it calls
-/// borrows it.
-pub(crate) fn act_on<V: Drop, E, T, F: FnOnce(&mut V) -> T>(
-    made: Result<V, E>,
-    action: F,
-) -> Result<T, E>
-    requires { F.IsAlwaysCallable action }
-{
-    match made {
-        Ok(mut value) => Ok(action(&mut value)),
-        Err(fault) => Err(fault),
-    }
-}
-
 /// Opens a server with the built-in configuration, over an empty store on which `calls` calls
 /// succeed.
 pub(crate) fn opened(alloc: Global, calls: u64) -> Result<Server<Fused>, Fault> {
-    let config = Config::builtin(alloc)?;
-    match Fused::new(alloc, calls) {
-        Ok(store) => opened_over(alloc, config, store),
+    match Config::builtin(alloc) {
+        Ok(config) => server_of(alloc, config, PORTS, calls).map_err(cause_of),
         Err(AllocError) => Err(Fault::Memory),
     }
-}
-
-// Does the same over a store.
-fn opened_over(alloc: Global, config: Config, store: Fused) -> Result<Server<Fused>, Fault>
-    requires { store.fault ≡ None }
-{
-    Server::open(alloc, config, store, PORTS).map_err(cause_of_refusal)
-}
-
-// Returns why a server is not opened, and drops what it returns.
-fn cause_of_refusal(refusal: (ServeFault, Config, Fused)) -> Fault {
-    cause_of(refusal.0)
 }
 
 // Returns why a server returns nothing: out of memory for the event or within its store, or another

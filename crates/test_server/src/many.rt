@@ -1,6 +1,7 @@
 use crate::datagrams::{DISCOVER, OFFER, Reply, answer};
-use crate::files::{expect, put};
-use crate::leased::{PORTS, address, lease};
+use crate::files::put;
+use crate::leased::{address, lease};
+use crate::support::{PORTS, act_on, changed, expect, opened};
 use kd_config::Config;
 use kd_keeps::Keeps;
 use kd_server::Server;
@@ -19,40 +20,50 @@ const LEASES: u32 = 100_100;
 
 // Makes a store of all leases.
 fn store(alloc: Global) -> Result<Fused, Fail> {
-    let mut store = Fused::new(alloc, u64::MAX)?;
-    fill(alloc, &mut store)?;
-    Ok(store)
+    changed(Fused::new(alloc, u64::MAX), |store| fill(alloc, store))
 }
 
 // Puts all leases into a store.
-fn fill(alloc: Global, store: &mut Fused) -> Result<(), Fail> {
+fn fill<S: Keeps>(alloc: Global, store: &mut S) -> Result<(), Fail> {
     for number in 1..=LEASES {
-        put(store, &lease(alloc, number)?)?;
+        put_lease(alloc, store, number)?;
     }
     Ok(())
 }
 
+// Puts the lease with a number into a store.
+fn put_lease<S: Keeps>(alloc: Global, store: &mut S, number: u32) -> Result<(), Fail> {
+    let row = lease(alloc, number)?;
+    put(store, &row)
+}
+
 // Makes a server over it.
 fn server(alloc: Global) -> Result<Server<Fused>, Fail> {
-    let config = Config::read(alloc, CONFIG, &[])?;
-    let store = store(alloc)?;
+    match store(alloc) {
+        Ok(store) => server_over(alloc, store),
+        Err(fault) => Err(fault),
+    }
+}
+
+// Makes a server over a store.
+fn server_over<S: Keeps + Drop>(alloc: Global, store: S) -> Result<Server<S>, Fail> {
     if store.failed() {
         return Err("the store has failed".into());
     }
-    match Server::open(alloc, config, store, PORTS) {
-        Ok(server) => Ok(server),
-        Err((fault, _, _)) => Err(fault.into()),
+    match Config::read(alloc, CONFIG, &[]) {
+        Ok(config) => Ok(opened(alloc, config, store, PORTS)?),
+        Err(fault) => Err(fault.into()),
     }
 }
 
 #[test]
 fn a_server_over_more_rows_than_any_block_of_them(rt: HostRuntime) -> Result<(), Fail> {
-    let mut server = server(rt.alloc())?;
-    lease_one_more(rt.alloc(), &mut server)
+    let alloc = rt.alloc();
+    act_on(server(alloc), |server| lease_one_more(alloc, server))?
 }
 
 // Checks a server's leases, and that a new client is offered the next address.
-fn lease_one_more(alloc: Global, server: &mut Server<Fused>) -> Result<(), Fail> {
+fn lease_one_more<S: Keeps>(alloc: Global, server: &mut Server<S>) -> Result<(), Fail> {
     expect(server.row_count() == 100_100, "rows are missing")?;
     let leases = server.leases(150)?.len();
     expect(leases == 100_100, "leases are missing")?;

@@ -1,8 +1,9 @@
 // What clients are offered over a table that withholds the reserved addresses.
 
-use crate::days::{Fault, act_on};
+use crate::days::Fault;
 use crate::fields::{DIRECT, Fields, bytes_of};
 use crate::scenes::{BEHIND, Layout, MOMENT, OWNER, POOL, Place, Scene, config_of, leases_of};
+use crate::support::act_on;
 use kd_config::Config;
 use kd_event::Reason;
 use kd_lease::{Decision, Leases, Plan, PlanKind, Verdict, decide_on};
@@ -251,8 +252,8 @@ fn as_worked_out(
 
 #[test]
 fn reserved_addresses_are_passed_over(rt: HostRuntime) -> Result<(), Fail> {
-    for (scene, offers) in LARGE {
-        let right = as_worked_out(rt.alloc(), &scene, offers)?;
+    for (scene, offers) in &LARGE {
+        let right = as_worked_out(rt.alloc(), scene, offers)?;
         assert!(rt; right == offers.len(), "{right} of {}", offers.len());
     }
     Ok(())
@@ -262,12 +263,12 @@ fn reserved_addresses_are_passed_over(rt: HostRuntime) -> Result<(), Fail> {
 // call repeated gives the same as with enough memory.
 #[test]
 fn want_of_memory_is_answered_as_such(rt: HostRuntime) -> Result<(), Fail> {
-    for (scene, offers) in SMALL {
-        match as_worked_out(rt.alloc(), &scene, offers) {
+    for (scene, offers) in &SMALL {
+        match as_worked_out(rt.alloc(), scene, offers) {
             Ok(right) => assert!(rt; right == offers.len()),
             Err(fault) => assert!(rt; fault == Fault::Memory),
         }
-        assert!(rt; as_worked_out(rt.alloc(), &scene, offers)? == offers.len());
+        assert!(rt; as_worked_out(rt.alloc(), scene, offers)? == offers.len());
     }
     Ok(())
 }

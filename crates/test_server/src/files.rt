@@ -10,11 +10,6 @@ pub(crate) fn remove(rt: &HostRuntime, paths: &[&str]) {
     }
 }
 
-/// Fails with a message if its condition does not hold.
-pub(crate) fn expect(holds: bool, message: &'static str) -> Result<(), Fail> {
-    if holds { Ok(()) } else { Err(message.into()) }
-}
-
 /// Puts a row that is in range into a store that has not failed.
 pub(crate) fn put<S: Keeps>(store: &mut S, row: &Row) -> Result<(), Fail> {
     if store.failed() || !row.is_in_range() {

@@ -1,17 +1,13 @@
-use crate::days::{act_on, opened};
+use crate::days::opened;
 use crate::fields::{DIRECT, Fields, bytes_of};
-use kd_event::{Destination, Mode, Ports, Reason, Response};
+use crate::support::{PORTS, act_on};
+use kd_event::{Destination, Mode, Reason, Response};
 use kd_lease::{Plan, PlanKind, destination};
 use kd_options::{Items, Message, Reply};
 use kd_server::Server;
 use std::alloc::Global;
 use std::test::Fail;
 use test_tables::Fused;
-
-const PORTS: Ports = Ports {
-    server: 67,
-    client: 68,
-};
 
 // A message's relay, client's address and flags, and the kind of its reply; how that is sent, and
 // to which address and port.
@@ -81,9 +77,9 @@ fn sent_to(alloc: Global, way: Way) -> Result<Destination, Fail> {
 
 #[test]
 fn a_reply_goes_where_the_message_says(rt: HostRuntime) -> Result<(), Fail> {
-    for way in WAYS {
-        let (_, _, _, _, (mode, address, port)) = way;
-        let found = sent_to(rt.alloc(), way)?;
+    for way in &WAYS {
+        let (_, _, _, _, (mode, address, port)) = *way;
+        let found = sent_to(rt.alloc(), *way)?;
         assert!(rt; found.mode == mode && found.address == address && found.port == port);
     }
     Ok(())
@@ -117,8 +113,8 @@ fn answer_of(
 
 #[test]
 fn a_message_comes_from_its_relay(rt: HostRuntime) -> Result<(), Fail> {
-    for (giaddr, way) in RELAYS {
-        assert!(rt; answered(rt.alloc(), giaddr)? == way);
+    for (giaddr, way) in &RELAYS {
+        assert!(rt; answered(rt.alloc(), *giaddr)? == *way);
     }
     Ok(())
 }

@@ -1,7 +1,7 @@
 // The decision for a message, from only its configuration and table.
 
-use crate::days::act_on;
 use crate::fields::{DIRECT, bytes_of};
+use crate::support::act_on;
 use kd_config::Config;
 use kd_lease::{Decision, Plan, PlanKind, decide};
 use kd_options::Message;
