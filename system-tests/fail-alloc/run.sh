@@ -127,8 +127,8 @@ SHORT_IO=1 LD_PRELOAD=$room/fail.so crates/kdhcp/out/kdhcp replay <examples/repl
 echo "replay byte by byte: the same"
 
 all=0 passed=0 building=0 second=0 other=0
-for test in test_texts:{answer,classes,compile,expr,machine,message,reply,token} test_server:{config,replay,server} \
-    test_{tables:{rows,withheld},leases:{days,reserved},stores:memory}; do
+for test in test_texts:{answer,classes,compile,expr,machine,message,reply,token} test_server:{config,days,replay,reserved,server} \
+    test_{tables:{rows,withheld},stores:memory}; do
     name=${test%:*}
     run=("crates/$name/out/${name}_tests" "${test#*:}::want_of_memory_is_answered_as_such")
     for n in $(seq 1 "$(asked_by "${run[@]}")"); do

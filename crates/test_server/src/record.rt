@@ -10,8 +10,8 @@ const PATH: &str = "record.txt";
 
 // Opens the record and writes a text to it.
 fn write(rt: &HostRuntime, text: &[u8]) -> Result<(), Fail> {
-    let mut sink = journal(rt, PATH)?;
-    write_all(&mut sink, text)?;
+    let mut record = journal(rt, PATH, &[])?;
+    write_all(&mut record.sink, text)?;
     Ok(())
 }
 
@@ -32,6 +32,6 @@ fn a_record_is_appended_to_and_is_its_owners(rt: HostRuntime) -> Result<(), Fail
 // If there is no folder with that name there is no record.
 #[test]
 fn a_record_in_no_folder_is_refused(rt: HostRuntime) -> Result<(), Fail> {
-    assert!(rt; journal(&rt, "no-such-folder/record.txt").is_err());
+    assert!(rt; journal(&rt, "no-such-folder/record.txt", &[]).is_err());
     Ok(())
 }
