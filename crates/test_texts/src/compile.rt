@@ -28,6 +28,28 @@ fn outcome(alloc: Global, text: &[u8], bytes: &[u8]) -> Result<Outcome, Fault> {
 const LONG: &[u8] =
     b"member('A') and (member('B') or ifelse(option[60].exists, lcase(option[60].hex), 'x') + 1 == hexstring(substring('k', 0, all), ':')) or not pkt4.mac == 0x0a0000000001 or member('ALL')";
 
+// Two class tests, and their outcomes over a DISCOVER.
+const WANTED: [(&[u8], Outcome); 2] = [
+    (
+        b"option[60].hex == 'a'",
+        Outcome {
+            value: false,
+            steps: 3,
+            peak_depth: 2,
+            peak_length: 2,
+        },
+    ),
+    (
+        LONG,
+        Outcome {
+            value: true,
+            steps: 9,
+            peak_depth: 2,
+            peak_length: 6,
+        },
+    ),
+];
+
 // If a memory request is refused, the call reports it; the same call repeated gives the same as
 // with enough memory.
 #[test]
@@ -38,21 +60,12 @@ fn want_of_memory_is_answered_as_such(rt: HostRuntime) -> Result<(), Fail> {
 
 // Checks two calls for each of two class tests over a DISCOVER.
 fn expect_again(alloc: Global, bytes: &[u8]) -> Result<(), Fail> {
-    for (text, value, steps, peak_length) in [
-        (b"option[60].hex == 'a'".as_slice(), false, 3, 2),
-        (LONG, true, 9, 6),
-    ] {
-        let want = Outcome {
-            value,
-            steps,
-            peak_depth: 2,
-            peak_length,
-        };
+    for (text, want) in &WANTED {
         let first = outcome(alloc, text, bytes);
-        let is_reported = first == Ok(want) || first == Err(Fault::Memory);
+        let is_reported = first == Ok(*want) || first == Err(Fault::Memory);
         expect(is_reported, "an outcome, or out of memory")?;
         let again = outcome(alloc, text, bytes)?;
-        expect(again == want, "the same call repeated")?;
+        expect(again == *want, "the same call repeated")?;
     }
     Ok(())
 }

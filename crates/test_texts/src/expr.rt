@@ -50,9 +50,9 @@ fn bytes_that_no_word_has_are_bad(rt: HostRuntime) {
         (b"'a' == \x00", 7),
         (b"option[1].exists\x80", 16),
     ];
-    for (text, at) in rows {
+    for (text, at) in &rows {
         assert!(rt;
-            fault_of(rt.alloc(), text) == Some(ExprFault::BadToken(at)),
+            fault_of(rt.alloc(), text) == Some(ExprFault::BadToken(*at)),
             "{text:?}"
         );
     }
@@ -69,10 +69,12 @@ fn is_refused_twice(expr: Expr) -> bool {
 
 // Returns the type fault of an expression that is no class test.
 fn type_fault_of(expr: Expr) -> Option<TypeFault> {
-    match type_of(expr) {
-        Ok(_typed) => None,
-        Err((fault, _expr)) => Some(fault),
-    }
+    type_of(expr).err().map(fault_in)
+}
+
+// Returns a type fault, and drops the expression that has it.
+fn fault_in(refusal: (TypeFault, Expr)) -> TypeFault {
+    refusal.0
 }
 
 #[test]
@@ -83,7 +85,7 @@ fn an_expression_that_is_no_test_comes_back(rt: HostRuntime) -> Result<(), Fail>
         b"hexstring('a',option[1].exists) == 'a'",
         b"uint32totext(option[1].exists) == 'a'",
     ];
-    for text in rows {
+    for text in &rows {
         assert!(rt; is_refused_twice(read(rt.alloc(), text)?), "{text:?}");
     }
     Ok(())
@@ -112,8 +114,8 @@ fn want_of_memory_is_answered_as_such(rt: HostRuntime) -> Result<(), Fail> {
             Some(ExprFault::UnknownName(26)),
         ),
     ];
-    for (text, want) in rows {
-        expect_fault(rt.alloc(), text, want)?;
+    for (text, want) in &rows {
+        expect_fault(rt.alloc(), text, *want)?;
     }
     assert!(rt; count_nodes(rt.alloc(), TEXT)? == 24);
     Ok(())

@@ -26,7 +26,7 @@ const HELD: [&[u8]; 5] = [b"ALL", b"VENDOR_CLASS_kd", b"B", b"A", b""];
 
 // Reports whether each name is held once it is added.
 fn holds_each(held: &mut Held) -> Result<bool, AllocError> {
-    for name in ADDED {
+    for name in &ADDED {
         held.add(name)?;
         if !held.contains(name) {
             return Ok(false);

@@ -1,6 +1,6 @@
 use kd_classes::ClassFault;
 use kd_compile::CompileFault;
-use kd_expr::{ExprFault, Typed, read, type_of};
+use kd_expr::{Expr, ExprFault, TypeFault, Typed, read, type_of};
 use kd_machine::{EvalFault, Held, Outcome, eval};
 use kd_options::{Message, ReadFault};
 use kd_token::{FileFault, Program, Verified, VerifyFault, verify};
@@ -135,18 +135,22 @@ fn put_token_file(
 
 /// Returns the class test in a text.
 pub(crate) fn typed_of(alloc: Global, text: &[u8]) -> Result<Typed, Fault> {
-    match type_of(read(alloc, text)?) {
-        Ok(typed) => Ok(typed),
-        Err((_fault, _expr)) => Err(Fault::Other),
-    }
+    type_of(read(alloc, text)?).map_err(cause_of_type)
+}
+
+// Returns why an expression is no class test, and drops the expression.
+fn cause_of_type(_refusal: (TypeFault, Expr)) -> Fault {
+    Fault::Other
 }
 
 /// Returns the program of a token file that is accepted.
 pub(crate) fn program_in(alloc: Global, file: &[u8]) -> Result<Verified, Fault> {
-    match verify(alloc, Program::read(alloc, file)?) {
-        Ok(verified) => Ok(verified),
-        Err((fault, _program)) => Err(Fault::from(fault)),
-    }
+    verify(alloc, Program::read(alloc, file)?).map_err(cause_of_refusal)
+}
+
+// Returns why a program is refused, and drops the program.
+fn cause_of_refusal(refusal: (VerifyFault, Program)) -> Fault {
+    Fault::from(refusal.0)
 }
 
 /// Returns the outcome of a program over a datagram, with the names that the message has before any
