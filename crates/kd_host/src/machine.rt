@@ -3,8 +3,8 @@ use kd_commands::{Files, Listening};
 use kd_config::Config;
 use kd_database::{left_out, let_go, rows_in_bytes, store_from};
 use kd_io::{
-    Appended, Copied, LookFault, Output, Sending, Socket, StartFault, configuration, copy_at, journal,
-    seconds_of, start_words, try_database, try_socket,
+    Appended, Copied, LookFault, Output, Sending, Socket, StartFault, configuration, copy_at,
+    journal, seconds_of, start_words, try_database, try_socket,
 };
 use kd_keeps::{Cause, Opened, StoreFault, Volatile};
 use kd_program::Host;
@@ -151,11 +151,7 @@ impl<'a, F: Start> Host for Machine<'a, F, Below<F>> {
         }
     }
 
-    fn journal(
-        &mut self,
-        path: &str,
-        files: &Files,
-    ) -> Result<Appended<Output<File>>, EndFailed> {
+    fn journal(&mut self, path: &str, files: &Files) -> Result<Appended<Output<File>>, EndFailed> {
         let config = path_of(&files.config);
         let store = path_of(&files.store);
         match log_of(self.rt.alloc(), &files.store) {

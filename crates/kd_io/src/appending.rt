@@ -84,7 +84,10 @@ fn cut_back(rt: &HostRuntime, path: &str, len: u64) -> io::Result<Option<u64>> {
     if len == 0 {
         return Ok(Some(0));
     }
-    cut_file(&OpenOptions::new().read(true).write(true).open(rt, path)?, len)
+    cut_file(
+        &OpenOptions::new().read(true).write(true).open(rt, path)?,
+        len,
+    )
 }
 
 // The same, of an open file.

@@ -80,7 +80,10 @@ pub(crate) fn put_removed(
     }
     line.push_str("record ")?;
     put_signs(alloc, line, path.as_bytes())?;
-    write!(line, ": its last line was not whole, {removed} bytes of it are removed\n")
+    write!(
+        line,
+        ": its last line was not whole, {removed} bytes of it are removed\n"
+    )
 }
 
 // Prints an address, a number in host order, and a port.

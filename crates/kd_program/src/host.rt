@@ -144,11 +144,7 @@ pub trait Host {
     /// # Errors
     ///
     /// The record cannot be written, or is one of these files or of the files of the streams.
-    fn journal(
-        &mut self,
-        path: &str,
-        files: &Files,
-    ) -> Result<Appended<Self::Journal>, EndFailed>
+    fn journal(&mut self, path: &str, files: &Files) -> Result<Appended<Self::Journal>, EndFailed>
         ensures given { MatchResult result
             (λ it. records self.old path.now (Ok it.sink) self.new)
             (λ failed. records self.old path.now (Err failed) self.new) }

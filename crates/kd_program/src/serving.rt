@@ -350,9 +350,9 @@ fn journal_of<H: Host>(
 ) -> Result<Appended<Option<H::Journal>>, EndFailed>
     ensures given { MatchResult result
         (λ it. GivesJournal H.Host H.Journal.Sink host.old (option_map string_bytes path.now)
-            (Ok it.sink) host.new)
+        (Ok it.sink) host.new)
         (λ failed. GivesJournal H.Host H.Journal.Sink host.old (option_map string_bytes path.now)
-            (Err failed) host.new) }
+        (Err failed) host.new) }
     ensures works { IfOk result (λ it. failed_in H.Journal.Sink it.sink ≡ false) }
 {
     match path {
