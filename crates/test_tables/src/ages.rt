@@ -1,4 +1,4 @@
-use crate::rows::{Fault, LEASES, expect, name, row, set, set_row, table};
+use crate::rows::{Fault, LEASES, check_made, check_table, expect, name, row, set, set_row};
 use kd_rows::{Row, Rows, State};
 use std::alloc::{AllocError, Global};
 use std::test::Fail;
@@ -58,8 +58,7 @@ fn are_newest(
 
 #[test]
 fn the_newest_row_of_a_client_is_found(rt: HostRuntime) -> Result<(), Fail> {
-    let mut rows = table(rt.alloc(), &LEASES)?;
-    expect_newest(rt.alloc(), &mut rows)
+    check_table(rt.alloc(), &LEASES, expect_newest)
 }
 
 // Checks the order of a client's rows by age, before and after one is renewed.
@@ -85,23 +84,16 @@ fn expect_newest(alloc: Global, rows: &mut Rows) -> Result<(), Fail> {
 
 // Three addresses at which a table is cut.
 fn cuts(alloc: Global) -> Result<Vec<u32>, AllocError> {
-    let mut cuts = Vec::new(alloc);
-    for cut in [151u32, 50, 90] {
-        cuts.push(cut)?;
-    }
-    Ok(cuts)
+    Vec::from_slice(alloc, &[151, 50, 90])
 }
 
-// Makes rows of five clients in all four states, set in mixed order and some of them set again, in
-// a table that is cut at three addresses.
-fn mixed(alloc: Global) -> Result<Rows, Fault> {
+// Makes a table that is cut at three addresses.
+fn cut_table(alloc: Global) -> Result<Rows, Fault> {
     let cuts = cuts(alloc)?;
-    let mut rows = Rows::with_cuts(Vec::new(alloc), cuts)?;
-    set_mixed(alloc, &mut rows)?;
-    Ok(rows)
+    Rows::with_cuts(Vec::new(alloc), cuts).map_err(Fault::from)
 }
 
-// Sets the rows of five clients.
+// Sets the rows of five clients in all four states, in mixed order, some of them again.
 fn set_mixed(alloc: Global, rows: &mut Rows) -> Result<(), Fault> {
     for i in 0..600u32 {
         set_row(rows, mixed_row(alloc, i)?)?;
@@ -143,12 +135,12 @@ fn fall_in_age(rows: &Rows, addresses: &[u32]) -> bool {
 
 #[test]
 fn rows_set_in_mixed_order_are_found_by_age(rt: HostRuntime) -> Result<(), Fail> {
-    let rows = mixed(rt.alloc())?;
-    expect_by_age(rt.alloc(), &rows)
+    check_made(rt.alloc(), cut_table(rt.alloc()), expect_by_age)?
 }
 
 // Checks the rows of each client in each state, in two ranges, of which the first has all rows.
-fn expect_by_age(alloc: Global, rows: &Rows) -> Result<(), Fail> {
+fn expect_by_age(alloc: Global, rows: &mut Rows) -> Result<(), Fail> {
+    set_mixed(alloc, rows)?;
     let mut total = 0usize;
     for i in 0..5u32 {
         for number in 1..5u8 {

@@ -36,19 +36,57 @@ pub(crate) fn row(alloc: Global, lease: Lease) -> Result<Row, AllocError> {
 // The rows of leases.
 fn list(alloc: Global, leases: &[Lease]) -> Result<Vec<Row>, AllocError> {
     let mut rows = Vec::new(alloc);
-    for lease in leases {
-        rows.push(row(alloc, *lease)?)?;
-    }
+    push_rows(alloc, &mut rows, leases)?;
     Ok(rows)
 }
 
-// The table of leases.
-pub(crate) fn table(alloc: Global, leases: &[Lease]) -> Result<Rows, Fault> {
-    let rows = list(alloc, leases)?;
-    if !Rows::accepts(&rows) {
-        return Err(Fault::Rows);
+// Pushes the rows of leases.
+fn push_rows(alloc: Global, rows: &mut Vec<Row>, leases: &[Lease]) -> Result<(), AllocError> {
+    for lease in leases {
+        rows.push(row(alloc, *lease)?)?;
     }
-    Ok(Rows::new(rows)?)
+    Ok(())
+}
+
+// The table of leases.
+fn table(alloc: Global, leases: &[Lease]) -> Result<Rows, Fault> {
+    let rows = list(alloc, leases)?;
+    table_of(rows)
+}
+
+/// The table of rows.
+pub(crate) fn table_of(rows: Vec<Row>) -> Result<Rows, Fault> {
+    if Rows::accepts(&rows) {
+        Rows::new(rows).map_err(Fault::from)
+    } else {
+        Err(Fault::Rows)
+    }
+}
+
+/// Has a table of leases checked.
+pub(crate) fn check_table<F: FnOnce(Global, &mut Rows) -> Result<(), Fail>>(
+    alloc: Global,
+    leases: &[Lease],
+    check: F,
+) -> Result<(), Fail>
+    requires { F.IsAlwaysCallable check }
+{
+    check_made(alloc, table(alloc, leases), check)?
+}
+
+/// Has a value checked, if it was made. Code that holds a table is proved against all its parts; this
+/// is proved for any value, and what it calls borrows it.
+pub(crate) fn check_made<V: Drop, T, F: FnOnce(Global, &mut V) -> T>(
+    alloc: Global,
+    made: Result<V, Fault>,
+    check: F,
+) -> Result<T, Fault>
+    requires { F.IsAlwaysCallable check }
+{
+    match made {
+        Ok(mut value) => Ok(check(alloc, &mut value)),
+        Err(fault) => Err(fault),
+    }
 }
 
 // Sets a lease.
@@ -96,11 +134,16 @@ const LISTS: [(&[Lease], bool); 9] = [
 
 #[test]
 fn a_table_rises_in_address_and_its_times_are_in_range(rt: HostRuntime) -> Result<(), Fail> {
-    for (leases, is_table) in LISTS {
-        let rows = list(rt.alloc(), leases)?;
-        assert!(rt; Rows::accepts(&rows) == is_table);
+    for (leases, is_table) in &LISTS {
+        assert!(rt; are_table(rt.alloc(), leases)? == *is_table);
     }
     Ok(())
+}
+
+// Reports whether the rows of leases are a table.
+fn are_table(alloc: Global, leases: &[Lease]) -> Result<bool, AllocError> {
+    let rows = list(alloc, leases)?;
+    Ok(Rows::accepts(&rows))
 }
 
 // An address, the client of its row, and the address of the next row.
@@ -132,19 +175,18 @@ pub(crate) fn address_of(row: Option<&Row>) -> Option<u32> {
 
 #[test]
 fn a_row_is_found_by_its_address(rt: HostRuntime) -> Result<(), Fail> {
-    let rows = table(rt.alloc(), &LEASES)?;
-    expect_read(&rows)
+    check_table(rt.alloc(), &LEASES, expect_read)
 }
 
 // Checks what is found at each address of `READ` and at two indices.
-fn expect_read(rows: &Rows) -> Result<(), Fail> {
-    for (address, client, next) in READ {
+fn expect_read(_: Global, rows: &mut Rows) -> Result<(), Fail> {
+    for (address, client, next) in &READ {
         expect(
-            client_of(rows.get(address)) == client,
+            client_of(rows.get(*address)) == *client,
             "a row by its address",
         )?;
         expect(
-            address_of(rows.next_from(address)) == next,
+            address_of(rows.next_from(*address)) == *next,
             "the next row from an address",
         )?;
     }
@@ -198,25 +240,25 @@ const GAPS: [(u32, u32, Option<u32>); 8] = [
 
 #[test]
 fn a_row_is_found_by_its_client_and_gaps_are_found(rt: HostRuntime) -> Result<(), Fail> {
-    let rows = table(rt.alloc(), &LEASES)?;
-    expect_rows_and_gaps(&rows)
+    check_table(rt.alloc(), &LEASES, expect_rows_and_gaps)
 }
 
 // Checks the rows of clients and the gaps of ranges.
-fn expect_rows_and_gaps(rows: &Rows) -> Result<(), Fail> {
-    for (client, i, address) in CLIENTS {
+fn expect_rows_and_gaps(_: Global, rows: &mut Rows) -> Result<(), Fail> {
+    for (client, i, address) in &CLIENTS {
         expect(
-            rows.of_client(client, i) == address,
+            rows.of_client(client, *i) == *address,
             "a row of a client by its index",
         )?;
     }
-    for (client, first, last, address) in NEXT {
+    for (client, first, last, address) in &NEXT {
         expect(
-            address_of(rows.next_of_client(client, first, last)) == address,
+            address_of(rows.next_of_client(client, *first, *last)) == *address,
             "the next row of a client",
         )?;
     }
-    for (first, last, gap) in GAPS {
+    for row in &GAPS {
+        let (first, last, gap) = *row;
         expect(
             first > last || rows.first_gap(first, last) == gap,
             "the first gap of a range",
@@ -227,8 +269,8 @@ fn expect_rows_and_gaps(rows: &Rows) -> Result<(), Fail> {
 
 #[test]
 fn the_index_follows_a_row_to_another_client(rt: HostRuntime) -> Result<(), Fail> {
-    let mut rows = table(rt.alloc(), &[(10, b"A", 1, 2), (11, b"B", 1, 2)])?;
-    expect_move(rt.alloc(), &mut rows)
+    let leases: [Lease; 2] = [(10, b"A", 1, 2), (11, b"B", 1, 2)];
+    check_table(rt.alloc(), &leases, expect_move)
 }
 
 // Gives the row of client A to client B, and checks the rows of both.
@@ -253,8 +295,7 @@ const SAME: [(Lease, bool); 5] = [
 
 #[test]
 fn a_row_that_is_there_changes_nothing(rt: HostRuntime) -> Result<(), Fail> {
-    let rows = table(rt.alloc(), &LEASES)?;
-    expect_same(rt.alloc(), &rows)
+    check_table(rt.alloc(), &LEASES, expect_same)
 }
 
 // Reports whether setting a lease, as a row in a state, would change nothing.
@@ -265,10 +306,10 @@ fn is_there(alloc: Global, rows: &Rows, lease: Lease, state: State) -> Result<bo
 }
 
 // Checks which leases of `SAME` would change nothing, and that another state would.
-fn expect_same(alloc: Global, rows: &Rows) -> Result<(), Fail> {
-    for (lease, changes_nothing) in SAME {
-        let found = is_there(alloc, rows, lease, State::Bound)?;
-        expect(found == changes_nothing, "a lease that is there, or not")?;
+fn expect_same(alloc: Global, rows: &mut Rows) -> Result<(), Fail> {
+    for (lease, changes_nothing) in &SAME {
+        let found = is_there(alloc, rows, *lease, State::Bound)?;
+        expect(found == *changes_nothing, "a lease that is there, or not")?;
     }
     expect(
         !is_there(alloc, rows, SAME[0].0, State::Released)?,
@@ -279,15 +320,8 @@ fn expect_same(alloc: Global, rows: &Rows) -> Result<(), Fail> {
 // The names of ten clients.
 const TEN: [&[u8]; 10] = [b"0", b"1", b"2", b"3", b"4", b"5", b"6", b"7", b"8", b"9"];
 
-// Makes a table of a thousand addresses, set in mixed order. The client of each has the name of the
+// Sets the leases of a thousand addresses in mixed order. The client of each has the name of the
 // address's last digit.
-fn thousand(alloc: Global) -> Result<Rows, Fault> {
-    let mut rows = table(alloc, &[])?;
-    set_thousand(alloc, &mut rows)?;
-    Ok(rows)
-}
-
-// Sets the leases of a thousand addresses.
 fn set_thousand(alloc: Global, rows: &mut Rows) -> Result<(), Fault> {
     for i in 0..1000u32 {
         let address = i * 617 % 1000;
@@ -313,9 +347,16 @@ fn are_in_order(rows: &Rows) -> bool {
 
 #[test]
 fn rows_set_in_mixed_order_stand_in_order(rt: HostRuntime) -> Result<(), Fail> {
-    let rows = thousand(rt.alloc())?;
-    assert!(rt; are_in_order(&rows) && rows.least_end() == 1001);
-    Ok(())
+    check_table(rt.alloc(), &[], expect_order)
+}
+
+// Checks the order of a thousand rows.
+fn expect_order(alloc: Global, rows: &mut Rows) -> Result<(), Fail> {
+    set_thousand(alloc, rows)?;
+    expect(
+        are_in_order(rows) && rows.least_end() == 1001,
+        "a thousand rows in order",
+    )
 }
 
 // The ends of a range, a time, and the least address in the range whose row has ended by then.
@@ -334,15 +375,14 @@ const ENDED: [(u32, u32, u64, Option<u32>); 10] = [
 
 #[test]
 fn a_row_that_has_ended_is_found(rt: HostRuntime) -> Result<(), Fail> {
-    let mut rows = table(rt.alloc(), &LEASES)?;
-    expect_ended(rt.alloc(), &mut rows)
+    check_table(rt.alloc(), &LEASES, expect_ended)
 }
 
 // Checks which rows have ended, before and after one is renewed.
 fn expect_ended(alloc: Global, rows: &mut Rows) -> Result<(), Fail> {
-    for (first, last, moment, address) in ENDED {
+    for (first, last, moment, address) in &ENDED {
         expect(
-            address_of(rows.next_ended(first, last, moment)) == address,
+            address_of(rows.next_ended(*first, *last, *moment)) == *address,
             "a row that has ended",
         )?;
     }
@@ -371,12 +411,12 @@ fn first_ended(rows: &Rows, first: u32, last: u32, moment: u64) -> Option<u32> {
 
 #[test]
 fn a_row_that_has_ended_is_found_among_those_renewed(rt: HostRuntime) -> Result<(), Fail> {
-    let mut rows = thousand(rt.alloc())?;
-    expect_ended_among_renewed(rt.alloc(), &mut rows)
+    check_table(rt.alloc(), &[], expect_ended_among_renewed)
 }
 
-// Renews rows in mixed order, and checks after each which row of a range has ended.
+// Renews a thousand rows in mixed order, and checks after each which row of a range has ended.
 fn expect_ended_among_renewed(alloc: Global, rows: &mut Rows) -> Result<(), Fail> {
+    set_thousand(alloc, rows)?;
     for i in 0..300u32 {
         let address = i * 347 % 1000;
         let ends = u64::from(1000 + i * 59 % 1500);
@@ -401,15 +441,8 @@ pub(crate) fn name(number: u32) -> &'static [u8] {
     NAMES.get(..(number % 40) as usize).unwrap_or(NAMES)
 }
 
-// Makes a table of 5,000 addresses of forty clients, set in mixed order, a thousand of them set
-// again for another client.
-fn five_thousand(alloc: Global) -> Result<Rows, Fault> {
-    let mut rows = table(alloc, &[])?;
-    set_five_thousand(alloc, &mut rows)?;
-    Ok(rows)
-}
-
-// Sets the leases of 5,000 addresses, and a thousand of them again.
+// Sets the leases of 5,000 addresses of forty clients in mixed order, and a thousand of them again
+// for another client.
 fn set_five_thousand(alloc: Global, rows: &mut Rows) -> Result<(), Fault> {
     for i in 0..6000u32 {
         let address = i * 3571 % 5000 * 3;
@@ -433,12 +466,12 @@ fn first_of(rows: &Rows, client: &[u8], first: u32, last: u64) -> Option<u32> {
 
 #[test]
 fn a_clients_row_is_found_in_a_range_of_thousands(rt: HostRuntime) -> Result<(), Fail> {
-    let rows = five_thousand(rt.alloc())?;
-    expect_first_of_clients(&rows)
+    check_table(rt.alloc(), &[], expect_first_of_clients)
 }
 
-// Checks the least address of clients in ranges.
-fn expect_first_of_clients(rows: &Rows) -> Result<(), Fail> {
+// Checks the least address of clients in ranges of those rows.
+fn expect_first_of_clients(alloc: Global, rows: &mut Rows) -> Result<(), Fail> {
+    set_five_thousand(alloc, rows)?;
     let mut count = 0u32;
     for i in 0..80u32 {
         let first = i * 4129 % 15_000;
@@ -470,7 +503,8 @@ const STATES: [(u8, Option<State>); 6] = [
 
 #[test]
 fn states_have_numbers(rt: HostRuntime) -> Result<(), Fail> {
-    for (number, state) in STATES {
+    for row in &STATES {
+        let (number, state) = *row;
         assert!(rt; State::of_number(number) == state);
         if let Some(state) = state {
             assert!(rt; state.number() == number);
@@ -481,8 +515,8 @@ fn states_have_numbers(rt: HostRuntime) -> Result<(), Fail> {
 
 // Makes a table of one row, sets one more row in it, and returns what is read from it.
 fn two(alloc: Global) -> Result<(usize, Option<u32>), Fault> {
-    let mut rows = table(alloc, &[(10, b"A", 1, 2)])?;
-    set_second(alloc, &mut rows)
+    let made = table(alloc, &[(10, b"A", 1, 2)]);
+    check_made(alloc, made, set_second)?
 }
 
 // Sets one more row in a table, and returns what is read from it.

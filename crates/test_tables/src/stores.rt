@@ -1,5 +1,5 @@
 use crate::fused::Fused;
-use crate::rows::expect;
+use crate::rows::{Fault, check_made, expect};
 use kd_keeps::{Cause, Keeps, StoreFault};
 use kd_rows::{Row, State};
 use kd_wire::Bytes;
@@ -19,15 +19,15 @@ fn lease(alloc: Global, address: u32) -> Result<Row, AllocError> {
 
 // Returns the result of the third call of a store on which two succeed: a row is put, the rows are
 // read, and another row is put.
-fn third(alloc: Global, store: &mut Fused) -> Result<Result<(), StoreFault>, Fail> {
+fn third<S: Keeps>(alloc: Global, store: &mut S) -> Result<Result<(), StoreFault>, Fail> {
     let first = lease(alloc, 10)?;
     let second = lease(alloc, 11)?;
     third_over(store, &first, &second)
 }
 
 // Does the same with these rows.
-fn third_over(
-    store: &mut Fused,
+fn third_over<S: Keeps>(
+    store: &mut S,
     first: &Row,
     second: &Row,
 ) -> Result<Result<(), StoreFault>, Fail> {
@@ -44,12 +44,12 @@ fn third_over(
 
 #[test]
 fn a_store_fails_once_its_fuse_has_burnt_down(rt: HostRuntime) -> Result<(), Fail> {
-    let mut store = Fused::new(rt.alloc(), 2)?;
-    expect_third_to_fail(rt.alloc(), &mut store)
+    let made = Fused::new(rt.alloc(), 2).map_err(Fault::from);
+    check_made(rt.alloc(), made, expect_third_to_fail)?
 }
 
 // Checks that the third call of a store fails, and that the store has failed then.
-fn expect_third_to_fail(alloc: Global, store: &mut Fused) -> Result<(), Fail> {
+fn expect_third_to_fail<S: Keeps>(alloc: Global, store: &mut S) -> Result<(), Fail> {
     let answer = third(alloc, store)?;
     expect(
         answer == Err(StoreFault::Sql(Cause::SystemIoFailure)),

@@ -2,7 +2,7 @@ ghost use Rattle.std.specs.Prelude.{◌≤◌};
 
 // A table that grows row by row, over three tiers of 4,096 numbers.
 
-use crate::rows::{Fault, address_of, expect, name, set, table};
+use crate::rows::{Fault, address_of, check_table, expect, name, set};
 use kd_rows::{Row, Rows};
 use std::alloc::Global;
 use std::test::Fail;
@@ -18,13 +18,6 @@ fn place_of(number: u32) -> u32 {
 // Returns the time at which it ends.
 fn end_of(number: u32) -> u64 {
     1000 + u64::from(number.wrapping_mul(7919) % 5000)
-}
-
-// Makes the table, with rows set in mixed order.
-fn grown(alloc: Global) -> Result<Rows, Fault> {
-    let mut rows = table(alloc, &[])?;
-    set_all(alloc, &mut rows)?;
-    Ok(rows)
 }
 
 // Sets the rows in mixed order.
@@ -105,12 +98,12 @@ fn is_searched(rows: &Rows, first: u32, last: u32) -> bool
 
 #[test]
 fn a_table_grows_over_several_tiers(rt: HostRuntime) -> Result<(), Fail> {
-    let rows = grown(rt.alloc())?;
-    expect_found(&rows)
+    check_table(rt.alloc(), &[], expect_found)
 }
 
 // Checks that rows are found, and searches of 300 ranges.
-fn expect_found(rows: &Rows) -> Result<(), Fail> {
+fn expect_found(alloc: Global, rows: &mut Rows) -> Result<(), Fail> {
+    set_all(alloc, rows)?;
     expect(are_found(rows), "rows by index, address and client")?;
     for i in 0..300u32 {
         let first = i * 4129 % 11_400;

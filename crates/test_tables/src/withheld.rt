@@ -1,6 +1,6 @@
 // A table with withheld addresses, against a simple list of what is at each address.
 
-use crate::rows::{Fault, Lease, address_of, expect, name, row};
+use crate::rows::{Fault, Lease, address_of, check_made, expect, name, row, table_of};
 use kd_rows::{Row, Rows, Withheld};
 use std::alloc::{AllocError, Global};
 use std::test::Fail;
@@ -73,22 +73,31 @@ fn withheld_in(alloc: Global, places: &[Place]) -> Result<Vec<u32>, AllocError> 
 // The rows of a list.
 fn rows_in(alloc: Global, places: &[Place]) -> Result<Vec<Row>, AllocError> {
     let mut rows = Vec::new(alloc);
+    push_rows(alloc, &mut rows, places)?;
+    Ok(rows)
+}
+
+// Pushes the rows of a list.
+fn push_rows(alloc: Global, rows: &mut Vec<Row>, places: &[Place]) -> Result<(), AllocError> {
     for place in places {
         if let Some(ends) = place.ends {
             rows.push(row(alloc, (place.address, name(place.address), 5, ends))?)?;
         }
     }
-    Ok(rows)
+    Ok(())
 }
 
-// The table of a list.
-fn table_of(alloc: Global, places: &[Place]) -> Result<Withheld, Fault> {
-    let withheld = withheld_in(alloc, places)?;
+// The table of the rows of a list.
+fn table_in(alloc: Global, places: &[Place]) -> Result<Rows, Fault> {
     let rows = rows_in(alloc, places)?;
-    if !Rows::accepts(&rows) {
-        return Err(Fault::Rows);
-    }
-    Ok(Withheld::new(Rows::new(rows)?, withheld)?)
+    table_of(rows)
+}
+
+// The table of a list, with its withheld addresses.
+fn withholding(alloc: Global, places: &[Place]) -> Result<Withheld, Fault> {
+    let withheld = withheld_in(alloc, places)?;
+    let rows = table_in(alloc, places)?;
+    Withheld::new(rows, withheld).map_err(Fault::from)
 }
 
 // Returns what is at an address; after the end of the list, nothing.
@@ -210,8 +219,17 @@ fn change(alloc: Global, table: &mut Withheld, places: &mut Vec<Place>) -> Resul
 #[test]
 fn withheld_addresses_are_passed_over(rt: HostRuntime) -> Result<(), Fail> {
     let mut places = list(rt.alloc(), MANY, MANY - 1000)?;
-    let mut table = table_of(rt.alloc(), &places)?;
-    expect_same(rt.alloc(), &mut table, &mut places)
+    expect_all(rt.alloc(), &mut places)
+}
+
+// Checks the table of a list before and after rows are set.
+fn expect_all(alloc: Global, places: &mut Vec<Place>) -> Result<(), Fail> {
+    let made = withholding(alloc, places);
+    check_made(
+        alloc,
+        made,
+        |alloc, table| expect_same(alloc, table, places),
+    )?
 }
 
 // Checks the table before and after rows are set.
@@ -237,10 +255,9 @@ fn is_same(table: &Withheld, places: &[Place]) -> bool {
 
 // Makes the table of a list, or reports out of memory if a request is refused.
 fn is_made(alloc: Global, places: &[Place]) -> bool {
-    match table_of(alloc, places) {
-        Ok(table) => is_same(&table, places),
-        Err(fault) => fault == Fault::Memory,
-    }
+    let made = withholding(alloc, places);
+    let found = check_made(alloc, made, |_, table| is_same(table, places));
+    found == Ok(true) || found == Err(Fault::Memory)
 }
 
 // Sets a row in the table and in the list. If memory is refused the rows stay as they were, and the
@@ -270,17 +287,22 @@ fn are_set(alloc: Global, table: &mut Withheld, places: &mut Vec<Place>) -> bool
 // calls repeated give the same as with enough memory. One table has no rows at first.
 #[test]
 fn want_of_memory_is_answered_as_such(rt: HostRuntime) -> Result<(), Fail> {
-    for end in [0u32, 40] {
-        let mut places = list(rt.alloc(), FEW, end)?;
-        expect_made_and_set(rt.alloc(), &mut places)?;
+    for end in &[0, 40] {
+        expect_few(rt.alloc(), *end)?;
     }
     Ok(())
+}
+
+// Checks the table of few addresses, of which those from `end` on have no rows at first.
+fn expect_few(alloc: Global, end: u32) -> Result<(), Fail> {
+    let mut places = list(alloc, FEW, end)?;
+    expect_made_and_set(alloc, &mut places)
 }
 
 // Makes a table, and makes it again and sets rows in it.
 fn expect_made_and_set(alloc: Global, places: &mut Vec<Place>) -> Result<(), Fail> {
     expect(is_made(alloc, places), "making a table")?;
-    let mut table = table_of(alloc, places)?;
-    let was_set = are_set(alloc, &mut table, places);
+    let made = withholding(alloc, places);
+    let was_set = check_made(alloc, made, |alloc, table| are_set(alloc, table, places))?;
     expect(was_set, "setting rows one after another")
 }
