@@ -1,5 +1,5 @@
 -- A command over files, by what the machine says of its answers.
-use Rattle.std.proofs.Common.{◌≡◌, ◌⊎◌, inl, inr, ℕ, List, Option, None, Some, Result, Ok, Err, IfOk, MatchResult, is_some, option_map, string_bytes, refl, subst}
+use Rattle.std.proofs.Common.{◌≡◌, ◌⊎◌, inl, inr, ℕ, true, false, List, Option, None, Some, Result, Ok, Err, IfOk, MatchResult, is_some, option_map, string_bytes, refl, subst}
 use Rattle.sqlite_disk.specs.declared.Disk.{Ghosts as Disks}
 use Rattle.sqlite_store.specs.FileStore.{view}
 use Rattle.sqlite_store.specs.declared.store.FileStore.{FileStore}
