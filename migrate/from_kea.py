@@ -227,9 +227,9 @@ class Reader(Notes):
 
 
 def main() -> None:
-    words = argparse.ArgumentParser()
-    words.add_argument("--server-address", metavar="A")
-    words.add_argument("file")
+    words = argparse.ArgumentParser(description=__doc__, formatter_class=argparse.RawDescriptionHelpFormatter)
+    words.add_argument("--server-address", metavar="A", help="the server's address, which Kea takes from its links")
+    words.add_argument("file", help="Kea's configuration")
     given = words.parse_args()
     try:
         with open(given.file, encoding="utf-8") as file:
