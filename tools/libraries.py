@@ -63,10 +63,21 @@ def is_newer(crate):
     return max((os.path.getmtime(it) for it in files if os.path.exists(it)), default=0) <= os.path.getmtime(f"{crate.rlib}/format")
 
 
+class NothingKept:
+    """Stands for the store of a toolchain whose `rt ci` keeps nothing."""
+
+    at = None
+
+    def is_built(self, crate):
+        """Notes nothing of the crate's library."""
+
+
 def is_given(kept, crate):
     """Takes over the crate's library if the gate kept it beside the toolchain. Returns whether it did."""
+    if not kept.at:
+        return False
     key = kept.key(crate)
-    if not kept.at or not os.path.isdir(kept.place(crate, False, key)):
+    if not os.path.isdir(kept.place(crate, False, key)):
         return False
     shutil.rmtree(os.path.dirname(crate.rlib), ignore_errors=True)
     return kept.give(crate, False, key)
@@ -82,7 +93,7 @@ def take_kept(rt, crates):
             ready[crate.name] = crate
         else:
             if kept is None:
-                kept = rt.Kept(crates)
+                kept = rt.Kept(crates) if hasattr(rt, "Kept") else NothingKept()
                 for it in ready.values():
                     kept.is_built(it)
             if not is_given(kept, crate):
