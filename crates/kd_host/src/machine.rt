@@ -133,7 +133,8 @@ impl<'a, F: Start> Host for Machine<'a, F, Below<F>> {
     fn copy(&mut self, path: &str) -> Result<Vec<Row>, LookFault> {
         let Copied { log, db } = copy_at(self.rt, path)?;
         match rows_in_bytes(self.rt.alloc(), log.as_slice(), db.as_slice()) {
-            Ok(rows) => Ok(rows),
+            Ok(Some(rows)) => Ok(rows),
+            Ok(None) => Err(LookFault::NoTable),
             Err(fault) => Err(LookFault::Store(fault)),
         }
     }
@@ -175,10 +176,7 @@ impl<'a, F: Start> Host for Machine<'a, F, Below<F>> {
 
     fn left_out(&self, path: &str) -> Option<usize> {
         match copy_at(self.rt, path) {
-            Ok(Copied { log, .. }) => match left_out(self.rt.alloc(), log.as_slice()) {
-                Ok(bytes) => bytes,
-                Err(_) => None,
-            },
+            Ok(Copied { log, db }) => unused(self.rt.alloc(), log.as_slice(), db.as_slice()),
             Err(_) => None,
         }
     }
@@ -212,5 +210,17 @@ fn log_of(alloc: Global, store: &Option<String>) -> Result<String, AllocError> {
     match store {
         Some(path) => format!(in alloc; "{path}-wal"),
         None => Ok(String::new(alloc)),
+    }
+}
+
+// Returns how many bytes a store that is opened on a log and a database leaves out of the log, if
+// any: all, if the database has no bytes (SQLite's file format, section 4).
+fn unused(alloc: Global, log: &[u8], db: &[u8]) -> Option<usize> {
+    if db.is_empty() && !log.is_empty() {
+        return Some(log.len());
+    }
+    match left_out(alloc, log) {
+        Ok(bytes) => bytes,
+        Err(_) => None,
     }
 }

@@ -25,6 +25,7 @@ input_fault_of kind = faults.Read
 abbrev pub look_fault_number : LookFault → ℕ
 look_fault_number (looks.Input fault) = input_fault_number fault
 look_fault_number looks.Unsettled = 82
+look_fault_number looks.NoTable = 80
 look_fault_number (looks.Store fault) = store_fault_number fault
 
 -- the number of each fault of starting: that of the fault inside

@@ -25,8 +25,9 @@ pub struct Appended<S> {
 
 /// Opens a sink that appends to the file at a path. It has not failed. If there is no such file, it
 /// is created, and only its owner can read and write it. If the last line of the file is not whole,
-/// as after a full disk or a power failure, the beginning of it is removed: nothing was handled of
-/// it. After a power failure zero bytes may stand for it, or follow it.
+/// as after a full disk or a power failure, the beginning of it is removed. On a full disk nothing
+/// was handled of it. After a power failure it may have been, since a record is not synced; zero
+/// bytes may then stand for it, or follow it.
 ///
 /// # Errors
 ///

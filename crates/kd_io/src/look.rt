@@ -18,6 +18,9 @@ pub enum LookFault {
     /// The log was restarted at each try.
     #[error("Unsettled")]
     Unsettled,
+    /// The database has no table of leases.
+    #[error("Schema")]
+    NoTable,
     /// What was read is not a store of leases.
     #[error("{0}")]
     Store(StoreFault),
@@ -30,13 +33,14 @@ impl fmt::Debug for LookFault {
 }
 
 impl LookFault {
-    /// Returns the fault's number: 82, or that of the fault inside.
+    /// Returns the fault's number: 80, 82, or that of the fault inside.
     pub fn number(self) -> u8
         ensures { result ≡ look_fault_number self }
     {
         match self {
             LookFault::Input(fault) => fault.number(),
             LookFault::Unsettled => 82,
+            LookFault::NoTable => 80,
             LookFault::Store(fault) => fault.number(),
         }
     }

@@ -8,6 +8,7 @@ use Rattle.kd_check.specs.declared.findings.SocketTrouble.{SocketTrouble}
 use Rattle.kd_config.specs.Configuration.{Configuration}
 use Rattle.kd_io.specs.Faults.{look_fault_number, start_fault_number}
 use Rattle.kd_io.specs.declared.look.LookFault.{LookFault}
+use Rattle.kd_io.specs.declared.look.LookFault.TheVariants as looks
 use Rattle.kd_io.specs.declared.start.StartFault.{StartFault}
 use Rattle.kd_program.specs.Streams.{At, ShowsOrBreaks, Starves}
 use Rattle.kd_program.specs.declared.checking.Place.{Place}
@@ -46,6 +47,12 @@ socket_finding answer = option_map (λ trouble. 94) (result_err answer)
 abbrev pub rows_finding : Option ℕ → List Row → ℕ → Option ℕ
 rows_finding limit rows moment = if is_behind limit (latest_of rows) moment then Some 101 else None
 
+-- what is found out about a database whose rows are not read: one without a table of leases has no
+-- fault, since a server makes the table
+abbrev pub look_finding : LookFault → Option ℕ
+look_finding looks.NoTable = None
+look_finding fault = Some (look_fault_number fault)
+
 -- over a host
 module _ {H N U L R : Type 0} (h : Hosts H N U L R) where
   -- the rows of a database are read, and the clock is asked, or memory runs out for them; or they
@@ -56,7 +63,7 @@ module _ {H N U L R : Type 0} (h : Hosts H N U L R) where
       × h.tells_time after moment × (found ≡ rows_finding limit rows moment))
       ⊎ (((rows : List Row) × h.copies before path (Ok rows) after × (found ≡ Some 91))
       ⊎ ((fault : LookFault) × h.copies before path (Err fault) after
-      × (found ≡ Some (look_fault_number fault))))
+      × (found ≡ look_finding fault)))
 
   -- a database was tried: it has some trouble, or does not exist, or its rows are read
   abbrev pub FindsDatabase : List ℕ → Option ℕ → Result Bool StoreTrouble → H → H → Option ℕ → Type 0

@@ -1,7 +1,6 @@
 -- Definitions used only by private contracts: what was found out about a store.
 use Rattle.std.specs.Prelude.{ℕ, Option, Some, None, if◌then◌else◌}
-use Rattle.kd_io.specs.Faults.{look_fault_number}
-use Rattle.kd_program.specs.Checking.{trouble_number}
+use Rattle.kd_program.specs.Checking.{look_finding, trouble_number}
 use Rattle.kd_program.specs.declared.checking.StoreFinding.{StoreFinding}
 use Rattle.kd_program.specs.declared.checking.StoreFinding.TheVariants as findings
 
@@ -10,6 +9,6 @@ abbrev pub finding_number : StoreFinding → Option ℕ
 finding_number findings.Unasked = None
 finding_number findings.New = None
 finding_number (findings.Trouble trouble) = Some (trouble_number trouble)
-finding_number (findings.Unread fault) = Some (look_fault_number fault)
+finding_number (findings.Unread fault) = look_finding fault
 finding_number findings.Memory = Some 91
 finding_number (findings.Open seen) = if seen.is_behind then Some 101 else None

@@ -151,6 +151,7 @@ impl StoreFinding {
             StoreFinding::New => None,
             StoreFinding::Trouble(StoreTrouble::Schema) => Some(80),
             StoreFinding::Trouble(_) => Some(81),
+            StoreFinding::Unread(LookFault::NoTable) => None,
             StoreFinding::Unread(fault) => Some(fault.number()),
             StoreFinding::Memory => Some(91),
             StoreFinding::Open(seen) if seen.is_behind => Some(AHEAD),

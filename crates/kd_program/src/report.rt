@@ -99,6 +99,9 @@ fn put_store(text: &mut String, name: &str, store: &StoreFinding) -> Result<(), 
         StoreFinding::Unread(LookFault::Input(_)) => {
             text.push_str(": its files can't be read")?;
         }
+        StoreFinding::Unread(LookFault::NoTable) => {
+            text.push_str(": no table of leases yet, serve makes it")?;
+        }
         StoreFinding::Unread(LookFault::Unsettled) => {
             text.push_str(": it was changed at each try, try again")?;
         }
@@ -108,7 +111,8 @@ fn put_store(text: &mut String, name: &str, store: &StoreFinding) -> Result<(), 
     text.push_str("\n")
 }
 
-// Prints what was found out about the log of a store that was read, if the log is damaged.
+// Prints what was found out about the log of a database that was read, if a server leaves some of it
+// out.
 fn put_log<H: Host>(
     text: &mut String,
     host: &H,
@@ -116,15 +120,16 @@ fn put_log<H: Host>(
     name: &str,
     store: &StoreFinding,
 ) -> Result<(), AllocError> {
-    let StoreFinding::Open(_) = store else {
-        return Ok(());
-    };
-    match host.left_out(path) {
-        Some(bytes) => writeln!(
+    match (store, host.left_out(path)) {
+        (StoreFinding::Open(_), Some(bytes)) => writeln!(
             text,
             "{name}-wal: damaged, serve leaves out the {bytes} bytes behind its last good commit"
         ),
-        None => Ok(()),
+        (StoreFinding::Unread(LookFault::NoTable), Some(bytes)) => writeln!(
+            text,
+            "{name}-wal: serve leaves out {bytes} bytes of it"
+        ),
+        _ => Ok(()),
     }
 }
 
