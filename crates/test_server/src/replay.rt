@@ -185,39 +185,6 @@ fn a_line_may_be_long(rt: HostRuntime) -> Result<(), Fail> {
     Ok(())
 }
 
-// What a replay of two datagrams that are not messages writes: its first line, and both.
-const FIRST_LINE: &[u8] = b"5 quiet 1 Unreadable\n";
-
-const BOTH_LINES: &[u8] = b"5 quiet 1 Unreadable\n6 quiet 1 Unreadable\n";
-
-// Reports whether a replay of them ends well with both lines, or runs out of memory, or its sink
-// has failed because memory ran out; then the lines are whole.
-fn is_right(end: &Result<u64, ReplayFault>, sink: &Keeping) -> bool {
-    let written = sink.as_slice();
-    match end {
-        Ok(handled) => *handled == 2 && written == BOTH_LINES,
-        Err(ReplayFault::Memory) | Err(ReplayFault::Write) => {
-            written.is_empty() || written == FIRST_LINE || written == BOTH_LINES
-        }
-        Err(_) => false,
-    }
-}
-
-// If a memory request is refused, a replay runs out of memory or its sink fails for that reason;
-// the same replay repeated gives the same as with enough memory.
-#[test]
-fn want_of_memory_is_answered_as_such(rt: HostRuntime) -> Result<(), Fail> {
-    assert!(rt; is_right_first(rt.alloc())?);
-    assert!(rt; answers(rt.alloc(), "5 \n6 00\n", 1000, "2")?);
-    Ok(())
-}
-
-// Reports whether a replay of the two ends as it should.
-fn is_right_first(alloc: Global) -> Result<bool, Fail> {
-    let (result, sink) = replayed(alloc, "5 \n6 00\n", (1000, false, 1000))?;
-    Ok(is_right(&result, &sink))
-}
-
 // Replays bytes that are held in memory, and finds the lines and the result.
 #[derive(Drop)]
 struct ReplaysHeld<'a>(&'a [u8]);

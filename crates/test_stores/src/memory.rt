@@ -5,7 +5,7 @@ use crate::leases::{Lease, are_rows_of, row};
 use kd_keeps::{Cause, Keeps, StoreFault};
 use kd_rows::{Row, Rows, State};
 use kd_store::Store;
-use sqlite::{Connection, Error, MemStore};
+use sqlite::{Connection, MemStore};
 use std::alloc::{AllocError, Global};
 use std::test::Fail;
 
@@ -182,126 +182,6 @@ fn rows_that_are_put_together_are_kept(rt: HostRuntime) -> Result<(), Fail> {
     let kept = keeps_many(rt.alloc(), &mut store);
     let _conn = store.close();
     assert!(rt; kept?);
-    Ok(())
-}
-
-// A table with our name and columns but none of our rules.
-const LOOSE: &str =
-    "CREATE TABLE lease (address INTEGER PRIMARY KEY, client BLOB, state INTEGER, changed INTEGER, ends INTEGER) STRICT";
-
-// Tables that are not ours, or rows that are out of range, with the statement that puts one row.
-const STRANGE: [(&str, &str); 12] = [
-    (
-        "CREATE TABLE lease (address INTEGER PRIMARY KEY, name TEXT NOT NULL) STRICT",
-        "INSERT INTO lease VALUES (1, 'a')",
-    ),
-    (
-        "CREATE TABLE lease (address INTEGER PRIMARY KEY, client TEXT, state INTEGER, changed INTEGER, ends INTEGER) STRICT",
-        "INSERT INTO lease VALUES (1, 'a', 2, 5, 6)",
-    ),
-    (LOOSE, "INSERT INTO lease VALUES (-1, x'61', 2, 5, 6)"),
-    (
-        LOOSE,
-        "INSERT INTO lease VALUES (4294967296, x'61', 2, 5, 6)",
-    ),
-    (LOOSE, "INSERT INTO lease VALUES (1, NULL, 2, 5, 6)"),
-    (LOOSE, "INSERT INTO lease VALUES (1, x'61', 0, 5, 6)"),
-    (LOOSE, "INSERT INTO lease VALUES (1, x'61', 5, 5, 6)"),
-    (LOOSE, "INSERT INTO lease VALUES (1, x'61', 258, 5, 6)"),
-    (LOOSE, "INSERT INTO lease VALUES (1, x'61', 2, -1, 6)"),
-    (LOOSE, "INSERT INTO lease VALUES (1, x'61', 2, 5, 4)"),
-    (
-        LOOSE,
-        "INSERT INTO lease VALUES (1, x'61', 2, 5, 2147483653)",
-    ),
-    (
-        LOOSE,
-        "INSERT INTO lease VALUES (1, x'61', 2, 1099511627776, 1099511627776)",
-    ),
-];
-
-// A connection to a new database with a table and a row.
-fn connected(alloc: Global, table: &str, row: &str) -> Result<Connection<MemStore>, Fail> {
-    let mut conn = Connection::open_in_memory(alloc)?;
-    fill(&mut conn, table, row)?;
-    Ok(conn)
-}
-
-// Runs the statements that make a table and a row.
-fn fill(conn: &mut Connection<MemStore>, table: &str, row: &str) -> Result<(), Error> {
-    run(conn, table)?;
-    run(conn, row)
-}
-
-// Runs one statement.
-fn run(conn: &mut Connection<MemStore>, statement: &str) -> Result<(), Error> {
-    conn.execute(statement, &[])?;
-    Ok(())
-}
-
-// Returns the number of rows in the table.
-fn count(conn: &mut Connection<MemStore>) -> Result<i64, Error> {
-    conn.query_row("SELECT count(*) FROM lease", &[])?.get(0)
-}
-
-// Returns the fault with which a connection is refused, and the connection.
-fn refused(
-    alloc: Global,
-    conn: Connection<MemStore>,
-) -> Result<(StoreFault, Connection<MemStore>), Fail> {
-    if !conn.is_autocommit() {
-        return Err("the connection is in a transaction".into());
-    }
-    match Store::open(alloc, conn) {
-        Ok(store) => {
-            let _conn = store.close();
-            Err("the table is not refused".into())
-        }
-        Err(back) => Ok(back),
-    }
-}
-
-// Connects to a new database with a table and a row. Returns the fault with which the connection is
-// refused, and the number of rows in the table `lease` over the connection that is returned, or why
-// they cannot be counted.
-fn refused_with(
-    alloc: Global,
-    table: &str,
-    row: &str,
-) -> Result<(StoreFault, Result<i64, Error>), Fail> {
-    let (fault, mut conn) = refused(alloc, connected(alloc, table, row)?)?;
-    Ok((fault, count(&mut conn)))
-}
-
-#[test]
-fn a_table_that_is_not_ours_is_refused_and_stays(rt: HostRuntime) -> Result<(), Fail> {
-    for (table, row) in &STRANGE {
-        let (fault, rows) = refused_with(rt.alloc(), *table, *row)?;
-        assert!(rt; (fault, rows?) == (StoreFault::Schema, 1));
-    }
-    Ok(())
-}
-
-// The name of the table is already that of an index, so that the table cannot be created.
-#[test]
-fn a_table_that_can_not_be_made_is_a_refused_statement(rt: HostRuntime) -> Result<(), Fail> {
-    let (fault, _) = refused_with(
-        rt.alloc(),
-        "CREATE TABLE other (name INTEGER) STRICT",
-        "CREATE INDEX lease ON other (name)",
-    )?;
-    assert!(rt; fault == StoreFault::Sql(Cause::Refused));
-    Ok(())
-}
-
-// A row in range, for the table that has none of our rules.
-const IN_RANGE: &str = "INSERT INTO lease VALUES (8, x'6127', 2, 1099511627775, 1101659111422)";
-
-#[test]
-fn a_row_in_range_is_read_from_a_table_without_rules(rt: HostRuntime) -> Result<(), Fail> {
-    let conn = connected(rt.alloc(), LOOSE, IN_RANGE)?;
-    let lease: Lease = (8, b"a'", State::Bound, 1_099_511_627_775, 1_101_659_111_422);
-    assert!(rt; holds_over(rt.alloc(), conn, &[lease])?);
     Ok(())
 }
 

@@ -1,106 +1,16 @@
-use crate::support::{DISCOVER, Fault, datagram, expect, is_written, program_in, token_file};
+use crate::support::{expect, is_written};
 use kd_classes::{ClassDef, ClassFault, Classes, OptionData, OptionList};
-use kd_machine::Held;
-use kd_options::Message;
-use kd_token::Verified;
 use kd_wire::Bytes;
 use std::alloc::{AllocError, Global};
 use std::test::Fail;
 
-// Returns the test in the file of `count` tokens with these names.
-fn test(alloc: Global, names: &[u8], count: u8, tokens: &[u8]) -> Result<Option<Verified>, Fault> {
-    let file = token_file(alloc, names, count, tokens)?;
-    Ok(Some(program_in(alloc, &file)?))
-}
-
 // Adds a definition without options.
-fn define(
-    alloc: Global,
-    list: &mut Vec<ClassDef>,
-    name: &[u8],
-    test: Option<Verified>,
-) -> Result<(), AllocError> {
+fn define(alloc: Global, list: &mut Vec<ClassDef>, name: &[u8]) -> Result<(), AllocError> {
     list.push(ClassDef {
         name: Bytes::own(Vec::from_slice(alloc, name)?),
-        test,
+        test: None,
         options: OptionList::own(Vec::new(alloc)),
     })?;
-    Ok(())
-}
-
-// Adds a definition whose test is in the file of `count` tokens with these names.
-fn define_tested(
-    alloc: Global,
-    list: &mut Vec<ClassDef>,
-    name: &[u8],
-    names: &[u8],
-    count: u8,
-    tokens: &[u8],
-) -> Result<(), Fault> {
-    let test = test(alloc, names, count, tokens)?;
-    Ok(define(alloc, list, name, test)?)
-}
-
-// Adds four definitions: option 60 in lower case followed by `1` is `kd1`; no test; member of A
-// and not of B; member of C.
-fn define_four(alloc: Global, list: &mut Vec<ClassDef>) -> Result<(), Fault> {
-    let lower = b"\x03\x3c\x11\x01\x00\x011\x0f\x01\x00\x03kd1\x09";
-    define_tested(alloc, list, b"A", b"\x00", 6, lower)?;
-    define(alloc, list, b"B", None)?;
-    let alone = b"\x08\x00\x08\x01\x0a\x0b";
-    define_tested(alloc, list, b"C", b"\x02\x01A\x01B", 4, alone)?;
-    define_tested(alloc, list, b"", b"\x01\x01C", 1, b"\x08\x00")
-}
-
-// Makes those four.
-fn classes(alloc: Global) -> Result<Classes, Fault> {
-    let mut list = Vec::new(alloc);
-    define_four(alloc, &mut list)?;
-    Ok(Classes::new(list)?)
-}
-
-// Returns the names that a DISCOVER of vendor class `kd` then holds.
-fn held(alloc: Global) -> Result<Held, Fault> {
-    let classes = classes(alloc)?;
-    let bytes = datagram(alloc, DISCOVER)?;
-    held_over(alloc, &classes, &bytes)
-}
-
-// Returns the names that a datagram then holds.
-fn held_over(alloc: Global, classes: &Classes, bytes: &[u8]) -> Result<Held, Fault> {
-    let message = Message::read(alloc, bytes)?;
-    held_of(alloc, classes, &message)
-}
-
-// Returns the names that a message then holds.
-fn held_of(alloc: Global, classes: &Classes, message: &Message<'_>) -> Result<Held, Fault> {
-    Ok(classes.held(alloc, message)?)
-}
-
-// Reports whether exactly these names are held, in this order.
-fn are(held: &Held, names: &[&[u8]]) -> bool {
-    for (index, name) in names.iter().enumerate() {
-        if held.name_at(index) != Some(*name) {
-            return false;
-        }
-    }
-    held.name_at(names.len()).is_none()
-}
-
-// Reports whether exactly these names are held after the four definitions, in this order.
-fn are_held(alloc: Global, names: &[&[u8]]) -> Result<bool, Fault> {
-    let held = held(alloc)?;
-    Ok(are(&held, names))
-}
-
-// Names are added in the order of their definitions. If a memory request is refused, the call
-// reports it; the same call repeated gives the same as with enough memory.
-#[test]
-fn want_of_memory_is_answered_as_such(rt: HostRuntime) -> Result<(), Fail> {
-    let names: [&[u8]; 5] = [b"ALL", b"VENDOR_CLASS_kd", b"A", b"C", b""];
-    let first = are_held(rt.alloc(), &names);
-    assert!(rt; matches!(first, Ok(true) | Err(Fault::Memory)));
-    assert!(rt; are_held(rt.alloc(), &names) == Ok(true));
     Ok(())
 }
 
@@ -120,7 +30,7 @@ fn define_many(
 ) -> Result<(), AllocError> {
     for number in 0..count {
         let name = if are_alike { 0 } else { number };
-        define(alloc, list, &name.to_be_bytes(), None)?;
+        define(alloc, list, &name.to_be_bytes())?;
     }
     Ok(())
 }

@@ -1,4 +1,4 @@
-use crate::support::{Fault, expect, typed_of};
+use crate::support::{expect, typed_of};
 use kd_expr::{Expr, ExprFault, Node, TypeFault, Typed, read, type_of};
 use std::alloc::Global;
 use std::test::Fail;
@@ -18,12 +18,6 @@ fn has_places(tree: &Node, places: [usize; 4]) -> bool {
 // Returns the fault of a text that is no expression.
 fn fault_of(alloc: Global, text: &[u8]) -> Option<ExprFault> {
     read(alloc, text).err()
-}
-
-// Returns how many nodes a class test has.
-fn count_nodes(alloc: Global, text: &[u8]) -> Result<u32, Fault> {
-    let typed = typed_of(alloc, text)?;
-    Ok(typed.nodes())
 }
 
 // The rest of the tree shows in what a class test is compiled to, which the cases cover.
@@ -88,35 +82,5 @@ fn an_expression_that_is_no_test_comes_back(rt: HostRuntime) -> Result<(), Fail>
     for text in &rows {
         assert!(rt; is_refused_twice(read(rt.alloc(), text)?), "{text:?}");
     }
-    Ok(())
-}
-
-// A text with each kind of node that takes memory.
-const TEXT: &[u8] =
-    b"not (member('a') or ifelse(1 == 2,lcase('b') + 0x123,substring(ucase(1.2.3.4),0,all)) == '') and uint32totext(3) == hexstring('c',':')";
-
-// Checks that a text has this fault, or out of memory at the first of two calls.
-fn expect_fault(alloc: Global, text: &[u8], want: Option<ExprFault>) -> Result<(), Fail> {
-    let first = fault_of(alloc, text);
-    let is_reported = first == want || first == Some(ExprFault::Memory);
-    expect(is_reported, "a fault, or out of memory")?;
-    expect(fault_of(alloc, text) == want, "the same call repeated")
-}
-
-// Each of these calls may meet the one memory request that is refused.
-#[test]
-fn want_of_memory_is_answered_as_such(rt: HostRuntime) -> Result<(), Fail> {
-    let rows: [(&[u8], Option<ExprFault>); 3] = [
-        (TEXT, None),
-        (b"(('a' == $", Some(ExprFault::BadToken(9))),
-        (
-            b"concat('a','b') == option[nope].hex",
-            Some(ExprFault::UnknownName(26)),
-        ),
-    ];
-    for (text, want) in &rows {
-        expect_fault(rt.alloc(), text, *want)?;
-    }
-    assert!(rt; count_nodes(rt.alloc(), TEXT)? == 24);
     Ok(())
 }

@@ -1,6 +1,6 @@
-//! Tests of messages, class tests and their programs by what only values can show: an allocator
-//! that refuses, laws, and readers that no command of the program reaches. Everything else is data:
-//! `cases`.
+//! Tests of messages, class tests and their programs by what only values can show: laws, and readers
+//! that no command of the program reaches. Everything else is data: `cases`. The script
+//! `system-tests/memory` refuses memory to the program.
 //!
 //! They are a separate crate because a crate is proved again together with its tests; so these are
 //! proved by themselves.

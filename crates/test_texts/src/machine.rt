@@ -1,9 +1,6 @@
-use crate::support::{
-    DISCOVER, Fault, base_of, datagram, expect, is, outcome_over, program_in, token_file,
-};
-use kd_machine::{Held, Outcome};
+use crate::support::{DISCOVER, Fault, base_of, datagram, expect, is};
+use kd_machine::Held;
 use kd_options::Message;
-use kd_token::Verified;
 use std::alloc::{AllocError, Global};
 use std::test::Fail;
 
@@ -57,37 +54,4 @@ fn expect_added(held: &mut Held) -> Result<(), Fail> {
     expect(has_all, "the names before any is added")?;
     expect(holds_each(held)?, "each name that is added")?;
     expect(are(held, &HELD), "the names in their order")
-}
-
-// Compares the digits of two joined literals, in lower case, with `61:62`: 8 tokens, at most 2
-// values.
-const DIGITS: &[u8] = b"\x01\x00\x01a\x01\x00\x01b\x0f\x01\x00\x01:\x10\x11\x01\x00\x0561:62\x09";
-
-// Returns the outcome of that program over a DISCOVER.
-fn outcome(alloc: Global) -> Result<Outcome, Fault> {
-    let file = token_file(alloc, b"\x00", 8, DIGITS)?;
-    let program = program_in(alloc, &file)?;
-    outcome_for(alloc, &program)
-}
-
-// Returns the outcome of a program over a DISCOVER.
-fn outcome_for(alloc: Global, program: &Verified) -> Result<Outcome, Fault> {
-    let bytes = datagram(alloc, DISCOVER)?;
-    outcome_over(alloc, program, &bytes)
-}
-
-// If a memory request is refused, the call reports it; the same call repeated gives the same as
-// with enough memory.
-#[test]
-fn want_of_memory_is_answered_as_such(rt: HostRuntime) -> Result<(), Fail> {
-    let want = Ok(Outcome {
-        value: true,
-        steps: 8,
-        peak_depth: 2,
-        peak_length: 5,
-    });
-    let first = outcome(rt.alloc());
-    assert!(rt; first == want || first == Err(Fault::Memory));
-    assert!(rt; outcome(rt.alloc()) == want);
-    Ok(())
 }

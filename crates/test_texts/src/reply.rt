@@ -77,27 +77,11 @@ fn a_reply_fits_or_is_too_long(rt: HostRuntime) -> Result<(), Fail> {
 // Checks the lengths that a reply of 346 bytes fits, and its options.
 fn expect_limit(alloc: Global, reply: &Reply) -> Result<(), Fail> {
     expect(reply.fits(346), "a reply of the most bytes")?;
+    expect(measure(alloc, reply, 346)? == 346, "its text")?;
     expect(!reply.fits(345), "a reply of one byte too many")?;
     let fault = measure(alloc, reply, 345).err();
     expect(fault == Some(WriteFault::TooLong), "a reply too long")?;
     expect(reply.items.as_slice().len() == 2, "two options")
-}
-
-// If an allocation is refused, the call reports Memory, and the same call repeated gives the text.
-#[test]
-fn want_of_memory_is_answered_as_such(rt: HostRuntime) -> Result<(), Fail> {
-    assert!(rt; WriteFault::Memory.number() == 91);
-    assert!(rt; is_written(rt.alloc(), WriteFault::Memory, "Memory")?);
-    let reply = ack(rt.alloc())?;
-    expect_again(rt.alloc(), &reply)
-}
-
-// Checks the length of a reply's text at two calls.
-fn expect_again(alloc: Global, reply: &Reply) -> Result<(), Fail> {
-    let first = measure(alloc, reply, 548);
-    let is_reported = matches!(first, Ok(346) | Err(WriteFault::Memory));
-    expect(is_reported, "346 bytes, or out of memory")?;
-    expect(measure(alloc, reply, 548)? == 346, "346 bytes")
 }
 
 // Returns how many bytes a reply's text has, of at most this many.

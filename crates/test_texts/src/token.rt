@@ -1,5 +1,5 @@
-use crate::support::{expect, is_written};
-use kd_token::{FileFault, Program, Token, VerifyFault, Version, Way, verify};
+use crate::support::expect;
+use kd_token::{Program, Token, Version, Way};
 use kd_wire::Field;
 use std::alloc::{AllocError, Global};
 use std::test::Fail;
@@ -9,13 +9,6 @@ const EACH: &[u8] = b"K4TK\x02\x04\x00\x40\xff\xff\x01\x02kd\x00\x1a\
     \x01\x00\x00\x02\xff\xff\xff\xff\x03\x3c\x04\x01\x05\x09\x06\x3c\x07\x02\x08\x00\
     \x09\x0a\x0b\x0c\x0d\x0e\xff\xff\xff\xfb\x00\x00\x00\x00\x04\x0e\x80\x00\x00\x00\x01\
     \x0f\x10\x11\x12\x13\x14\x20\x00\x04\x21\x00\x00\x22\x00\x01\x23\x00\x00\x0a";
-
-// One of two literals, by whether option 60 is present.
-const CHOICE: &[u8] = b"K4TK\x02\x00\x06\x02\x00\x01\x00\x00\x07\
-    \x06\x3c\x21\x00\x02\x01\x00\x01a\x20\x00\x01\x01\x00\x01b\x01\x00\x01a\x09";
-
-// A program whose second token needs two values and finds one.
-const REFUSED: &[u8] = b"K4TK\x01\x00\x02\x01\x00\x00\x00\x00\x02\x06\x3c\x0b";
 
 // Reports whether a program declares the most that it may, and has only the name `kd`.
 fn declares_all(program: &Program) -> bool {
@@ -65,51 +58,4 @@ fn a_token_tells_its_way(rt: HostRuntime) {
     for (token, want) in table {
         assert!(rt; token.way() == want);
     }
-}
-
-// Returns the fault that the verifier reports for a file, if any, and whether its program was
-// returned whole.
-fn answer(alloc: Global, file: &[u8]) -> Result<(Option<VerifyFault>, bool), FileFault> {
-    match verify(alloc, Program::read(alloc, file)?) {
-        Ok(verified) => answer_with(alloc, None, verified.program(), file),
-        Err((fault, program)) => answer_with(alloc, Some(fault), &program, file),
-    }
-}
-
-// Returns this fault, and whether a program is written as the file.
-fn answer_with(
-    alloc: Global,
-    fault: Option<VerifyFault>,
-    program: &Program,
-    file: &[u8],
-) -> Result<(Option<VerifyFault>, bool), FileFault> {
-    Ok((fault, has_file(alloc, program, file)?))
-}
-
-// Reports whether the program is returned whole, without a fault or with that of memory, or memory
-// is refused before.
-fn is_accepted_or_memory(alloc: Global, file: &[u8]) -> bool {
-    matches!(
-        answer(alloc, file),
-        Ok((None | Some(VerifyFault::Memory), true)) | Err(FileFault::Memory)
-    )
-}
-
-// Checks that fault, and that the program is returned whole.
-fn expect_answer(alloc: Global, file: &[u8], fault: Option<VerifyFault>) -> Result<(), Fail> {
-    let found = answer(alloc, file);
-    expect(found == Ok((fault, true)), "what the verifier reports")
-}
-
-// If a memory request is refused, the call reports it and returns the program; the same call
-// repeated gives the same as with enough memory.
-#[test]
-fn want_of_memory_is_answered_as_such(rt: HostRuntime) -> Result<(), Fail> {
-    assert!(rt; is_accepted_or_memory(rt.alloc(), CHOICE));
-    expect_answer(rt.alloc(), CHOICE, None)?;
-    expect_answer(rt.alloc(), REFUSED, Some(VerifyFault::Short(1)))?;
-    assert!(rt; (FileFault::Memory.number(), VerifyFault::Memory.number()) == (91, 91));
-    assert!(rt; is_written(rt.alloc(), FileFault::Memory, "Memory")?);
-    assert!(rt; is_written(rt.alloc(), VerifyFault::Memory, "Memory")?);
-    Ok(())
 }

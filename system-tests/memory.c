@@ -1,5 +1,5 @@
-// A library to preload. The FAIL_AT-th memory allocation fails. With FAIL_TELL it prints the number of
-// allocations at the end. With SHORT_IO each read and each write transfers one byte.
+// Loaded before the C library (LD_PRELOAD), for the script `memory`. The FAIL_AT-th memory allocation fails. With FAIL_TELL the
+// number of allocations is printed at the end. With SHORT_IO each read and each write transfers one byte.
 #define _GNU_SOURCE
 #include <dlfcn.h>
 #include <errno.h>
