@@ -90,7 +90,9 @@ def started(room, kdhcp, which, tests):
             words = alone(words)
     cpus = "0,2,3" if which == "kea3" else "0"
     environment = dict(os.environ, KEA_PIDFILE_DIR=room, KEA_LOCKFILE_DIR="none")
-    with open(f"{room}/said", "w", encoding="utf-8") as said, socket.socket(socket.AF_INET, socket.SOCK_DGRAM) as ours:
+    # Lines of events go to a file, as those of the unit do.
+    with open(f"{room}/said", "w", encoding="utf-8") as said, open(f"{room}/events.lines", "w", encoding="utf-8") as log, \
+            socket.socket(socket.AF_INET, socket.SOCK_DGRAM) as ours:
         if which == "handed":
             environment["LISTEN_FDS"] = "1"
             ours.setsockopt(socket.SOL_SOCKET, SO_RCVBUFFORCE, 4 << 20)
@@ -102,7 +104,7 @@ def started(room, kdhcp, which, tests):
                 os.set_inheritable(3, True)
 
         words = ["taskset", "-c", cpus, *words]
-        server = subprocess.Popen(words, stdout=subprocess.DEVNULL, stderr=said, env=environment, preexec_fn=take, close_fds=False)
+        server = subprocess.Popen(words, stdout=log, stderr=said, env=environment, preexec_fn=take, close_fds=False)
     time.sleep(1.5)
     if server.poll() is not None:
         sys.exit(f"{which} ended: {open(f'{room}/said', encoding='utf-8').read()}")
@@ -172,23 +174,44 @@ def table(title, heads, rounds, read, form):
         print(f"| {NAMES[which]} | {' | '.join(cells)} |")
 
 
+def ticks(most):
+    """Round numbers from 0 to at least the most, four to ten of them."""
+    steps = (digit * 10**power for power in range(9) for digit in (1, 2, 5))
+    step = next(it for it in steps if most <= 8 * it)
+    return [step * part for part in range(-(-int(most) // step) + 1)]
+
+
+def apart(heights, least=15):
+    """Heights of labels, in the same order, that are moved down until no two touch."""
+    placed, last = {}, -least
+    for which, height in sorted(heights.items(), key=lambda it: it[1]):
+        last = placed[which] = max(height, last + least)
+    return placed
+
+
 def picture(path, rounds, heads, over):
-    """Draws DORA a second over the numbers in `heads`, one line for each server."""
-    colours = dict(zip(rounds, ["#888888", "#444444", "#1f77b4", "#d62728"]))
+    """Draws DORA a second at the numbers in `heads`, which are equally far apart. Each server has a line, labelled at its end:
+    kdhcp in blue, others in grey."""
+    colours = {"file": "#1f5fa8", "memory": "#8db4dd", "alone": "#5b8fc7"}
     lines = {which: [middle(all_rounds, i, lambda it: it["per_s"]) for i in range(len(heads))] for which, all_rounds in rounds.items()}
-    most = max(max(line) for line in lines.values()) * 1.1
-    out = ['<svg xmlns="http://www.w3.org/2000/svg" width="640" height="360" font-family="sans-serif" font-size="12">']
-    out.append('<rect width="640" height="360" fill="white"/><text x="60" y="20">DORA a second over the number of ' + over + "</text>")
-    out.append('<path d="M60 30V320H480" stroke="black" fill="none"/>')
-    places = [60 + 420 * i / (len(heads) - 1) for i in range(len(heads))]
+    marks = ticks(max(max(line) for line in lines.values()))
+    out = ['<svg xmlns="http://www.w3.org/2000/svg" width="760" height="360" font-family="sans-serif" font-size="12">']
+    out.append('<rect width="760" height="360" fill="white"/><text x="60" y="18">DORA a second</text>')
+    out.append(f'<text x="270" y="354" text-anchor="middle">number of {over}</text>')
+    places = [80 + 400 * i / (len(heads) - 1) for i in range(len(heads))]
     out += [f'<text x="{x:.0f}" y="336" text-anchor="middle">{head:,}</text>' for x, head in zip(places, heads)]
-    for part in range(5):
-        value = most * part / 4
-        out.append(f'<text x="54" y="{320 - 290 * part / 4 + 4:.0f}" text-anchor="end">{value:,.0f}</text>')
-    for row, (which, line) in enumerate(lines.items()):
-        spots = " ".join(f"{x:.0f},{320 - 290 * y / most:.0f}" for x, y in zip(places, line))
-        out.append(f'<polyline points="{spots}" fill="none" stroke="{colours[which]}" stroke-width="2"/>')
-        out.append(f'<text x="495" y="{60 + 20 * row}" fill="{colours[which]}">{NAMES[which]}</text>')
+    height = lambda value: 320 - 290 * value / marks[-1]
+    for value in marks:
+        out.append(f'<path d="M60 {height(value):.0f}H490" stroke="#dddddd"/>')
+        out.append(f'<text x="54" y="{height(value) + 4:.0f}" text-anchor="end">{value:,}</text>')
+    labels = apart({which: height(line[-1]) + 4 for which, line in lines.items()})
+    for which, line in lines.items():
+        colour = colours.get(which, "#777777")
+        spots = [(x, height(y)) for x, y in zip(places, line)]
+        points = " ".join(f"{x:.0f},{y:.0f}" for x, y in spots)
+        out.append(f'<polyline points="{points}" fill="none" stroke="{colour}" stroke-width="2"/>')
+        out += [f'<circle cx="{x:.0f}" cy="{y:.0f}" r="3" fill="{colour}"/>' for x, y in spots]
+        out.append(f'<text x="496" y="{labels[which]:.0f}" fill="{colour}">{NAMES[which]}</text>')
     with open(path, "w", encoding="utf-8") as it:
         it.write("\n".join(out + ["</svg>", ""]))
 

@@ -1,5 +1,6 @@
 // Loaded before the C library (LD_PRELOAD), for the script `memory`. The FAIL_AT-th memory allocation fails. With FAIL_TELL the
-// number of allocations is printed at the end. With SHORT_IO each read and each write transfers one byte.
+// number of allocations is printed at the end. With SHORT_IO each read and each write transfers one byte. HANDED_SOCKET is a
+// descriptor that the program finds where a service manager puts it.
 #define _GNU_SOURCE
 #include <dlfcn.h>
 #include <errno.h>
@@ -52,6 +53,12 @@ ssize_t write(int fd, const void *bytes, size_t n) {
     if (!next)
         next = (ssize_t (*)(int, const void *, size_t))dlsym(RTLD_NEXT, "write");
     return next(fd, bytes, at_once(n));
+}
+
+__attribute__((constructor)) static void begin(void) {
+    const char *handed = getenv("HANDED_SOCKET");
+    if (handed && dup2(atoi(handed), 3) != 3)
+        abort();
 }
 
 __attribute__((destructor)) static void tell(void) {
