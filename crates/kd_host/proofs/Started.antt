@@ -8,7 +8,7 @@ use Rattle.sqlite_wal.specs.Recovery.{Image}
 use Rattle.kd_commands.specs.declared.orders.Order.{Order}
 use Rattle.kd_config.specs.Configuration.{Configuration}
 use Rattle.kd_database.specs.Stops.{LiesBelow}
-use Rattle.kd_database.specs.Stores.{IsStoreIn, StandsAsHeld}
+use Rattle.kd_database.specs.Stores.{IsStoreIn, StandsAsHeld, StandsNew}
 use Rattle.kd_host.specs.OnFiles.{IsStatusOnFiles, Left, ReadsNone, RunsOnFiles, ServesFiles, order_of}
 use Rattle.kd_io.specs.Faults.{start_fault_number}
 use Rattle.kd_io.specs.Start.{IsOfFiles}
@@ -36,7 +36,7 @@ module _ {D H U L R : Type 0} (d : Disks D) (h : Hosts H (Kept (FileStore D d)) 
     pub configures : (before : H) (file folder : Option (List ℕ)) (config : Configuration) (after : H) → h.configures before file folder (Ok config) after
         → IsOfFiles (is_some file) (is_some folder) config
     pub opens : (before : H) (path : List ℕ) (store : Kept (FileStore D d)) (after : H) → h.opens before path (Ok store) after
-        → StandsAsHeld image store × IsStoreIn image store
+        → StandsAsHeld image store × StandsNew image store × IsStoreIn image store
     pub closes : (before : H) (path : List ℕ) (back : Kept (FileStore D d)) (after : H) → h.closes before path back after
         → (it : FileStore D d) × (left_of after ≡ Some it) × (IsClean (view it) → LiesBelow back.conn it)
 
@@ -68,7 +68,8 @@ module _ {D H U L R : Type 0} (d : Disks D) (h : Hosts H (Kept (FileStore D d)) 
         of_files = of_files files c.config (says.configures before.host _ _ c.config c.asked c.given);
         store = w.store;
         held = opened.0;
-        is_in = opened.1;
+        new = opened.1;
+        is_in = opened.2;
         back = w.back;
         before = w.opened;
         after = w.left;
@@ -128,9 +129,9 @@ module _ {D H U L R : Type 0} (d : Disks D) (h : Hosts H (Kept (FileStore D d)) 
   }
 
 -- what a store says of a result, in both cases
-pub given_store : {V E : Type 0} (P Q : V → Type 0) (r : Result V E) → IfOk r P → IfOk r Q → MatchResult r (λ v. P v × Q v) (λ e. Unit {0})
-given_store P Q (Ok v) p q = (p, q)
-given_store P Q (Err e) p q = tt
+pub given_store : {V E : Type 0} (P Q R : V → Type 0) (r : Result V E) → IfOk r P → IfOk r Q → IfOk r R → MatchResult r (λ v. P v × Q v × R v) (λ e. Unit {0})
+given_store P Q R (Ok v) p q s = (p, q, s)
+given_store P Q R (Err e) p q s = tt
 
 -- a command that was carried out over some streams ends with a status over some
 pub some_streams : {D H U L R : Type 0} {d : Disks D} {h : Hosts H (Kept (FileStore D d)) U L R} {k : Ghosts (Kept (FileStore D d))} {l : Links L} {r : Sinks R} {image : Image} {words : List (List ℕ)} {status : ℕ}

@@ -1,6 +1,6 @@
 -- What openings of a server over files amount to, whatever happened between them: one life, one
 -- history.
-use Rattle.std.specs.Prelude.{ℕ, List, [], ◌∷◌, None, Some}
+use Rattle.std.specs.Prelude.{◌≡◌, ◌⊎◌, ℕ, List, [], ◌∷◌, None, Some}
 use Rattle.sqlite_disk.specs.declared.Disk.{Ghosts as Disks}
 use Rattle.sqlite_store.specs.declared.store.FileStore.{FileStore}
 use Rattle.sqlite_trees.specs.Tree.{Trees}
@@ -24,6 +24,12 @@ use Rattle.kd_program.specs.Openings.{CommandsAreOpenings}
 use Rattle.kd_server.specs.Lives.{Call, IsDone, Life, Opening, OpeningsAreHistories, OpeningsEnd, WasHistory}
 use Rattle.kd_store.specs.Kept.{Kept}
 use Rattle.kd_store.specs.Stands.{Holds}
+
+-- files hold a table of leases: that of the database in them, or the empty one if the database has
+-- no bytes
+abbrev pub HoldsTable : Image → List Row → Type 0
+HoldsTable image table =
+    ((db : Trees) × HoldsDatabase image db × Holds db table) ⊎ ((image.db ≡ []) × (table ≡ []))
 
 -- an opening with a configuration, at rows, with ports and calls
 abbrev pub opening : Configuration → List Row → Ports → List Call → Opening
@@ -77,8 +83,7 @@ module _ {D E : Type 0} {d : Disks D} {e : Disks E} (k : Ghosts (Kept (FileStore
       (image : Image) (files : Files) (work : Work) (old : Streams)
       (left : Left (FileStore D d)) (status : ℕ)
       → (s : ServesFiles d h k l r image files work old left status)
-      → k.has_clean_disk s.back → (db : Trees) (table : List Row) → HoldsDatabase image db
-      → Holds db table
+      → k.has_clean_disk s.back → (table : List Row) → HoldsTable image table
       → (calls : List Call)
       × WasHistory (opening s.config table (ports_asked work) calls) None
       × LeadsOn s.config table (ports_asked work) calls s.back

@@ -13,7 +13,7 @@ use Rattle.kd_commands.specs.declared.orders.Order.TheVariants as orders
 use Rattle.kd_config.specs.Configuration.{Configuration}
 use Rattle.kd_database.specs.Image.{AreRowsIn, bytes_image}
 use Rattle.kd_database.specs.Stops.{LiesBelow}
-use Rattle.kd_database.specs.Stores.{IsStoreIn, StandsAsHeld}
+use Rattle.kd_database.specs.Stores.{IsStoreIn, StandsAsHeld, StandsNew}
 use Rattle.kd_io.specs.Start.{IsOfFiles}
 use Rattle.kd_io.specs.declared.link.Sending.{Sending}
 use Rattle.kd_keeps.specs.declared.keeps.Keeps.{Ghosts}
@@ -65,14 +65,16 @@ pub record Left (F : Type 0) : Type 0 where
 module _ {D H U L R : Type 0} (d : Disks D) (h : Hosts H (Kept (FileStore D d)) U L R)
     (k : Ghosts (Kept (FileStore D d))) (l : Links L) (r : Sinks R) where
   -- a server works over the database that these bytes hold; its configuration is that of a text, if
-  -- a file is named. Its store stands at the table of that database, and is released at the end, so
-  -- that a crash leaves of what is below the store nothing that it does not leave of the store
+  -- a file is named. Its store stands at the table of that database, or at the empty one if there
+  -- are no bytes, and is released at the end, so that a crash leaves of what is below the store
+  -- nothing that it does not leave of the store
   pub record ServesFiles (image : Image) (files : Files) (work : Work) (old : Streams)
       (left : Left (FileStore D d)) (status : ℕ) : Type 0 where
     pub config : Configuration
     pub of_files : IsOfFiles (is_some files.config) (is_some files.token_dir) config
     pub store : Kept (FileStore D d)
     pub held : StandsAsHeld image store
+    pub new : StandsNew image store
     pub is_in : IsStoreIn image store
     pub back : Kept (FileStore D d)
     pub before : H

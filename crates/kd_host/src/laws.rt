@@ -44,8 +44,9 @@ pub fn goes_on<D: Disk, E: Disk>()
     restarts::<D, E>();
 }
 
-/// What a command does over files that held a table is a history from that table. A server that is
-/// opened on what a crash then leaves stands at rows to which that history leads.
+/// What a command does over files that held a table is a history from that table, and over a
+/// database without bytes one from the empty table. A server that is opened on what a crash then
+/// leaves stands at rows to which that history leads.
 pub fn runs_are_histories<'a, F: Start, E: Disk>()
     ensures { RunsAreHistories ⟦<Store<Below<F>> as Keeps>⟧ ⟦<Store<FileStore<E>> as Keeps>⟧
         ⟦<Machine<'a, F, Below<F>> as Host>⟧ ⟦<Socket<'a> as Link>⟧ ⟦<Output<File> as Sink>⟧ }

@@ -63,7 +63,7 @@ impl<'a, F: Start> Host for Machine<'a, F, Below<F>> {
     ghost use Rattle.sqlite_trees.specs.View.{IsClean};
     ghost use Rattle.sqlite_wal.specs.Files.{image_at};
     ghost use Rattle.kd_database.specs.Stops.{LiesBelow};
-    ghost use Rattle.kd_database.specs.Stores.{IsStoreIn, StandsAsHeld};
+    ghost use Rattle.kd_database.specs.Stores.{IsStoreIn, StandsAsHeld, StandsNew};
     ghost use Rattle.kd_io.specs.Start.{IsOfFiles};
     ghost use Rattle.kd_host.specs.OnFiles.{AreRowsFound, IsOfHanded, sending_of};
 
@@ -80,7 +80,7 @@ impl<'a, F: Start> Host for Machine<'a, F, Below<F>> {
 
     ghost opens = { λ old path result new.
         IfOk result (λ store. StandsAsHeld (image_at F.Start) store
-        × IsStoreIn (image_at F.Start) store) };
+        × StandsNew (image_at F.Start) store × IsStoreIn (image_at F.Start) store) };
 
     ghost makes = { λ old result new. IfOk result (λ store. store.is_new ≡ true) };
 
