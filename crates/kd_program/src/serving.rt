@@ -1,4 +1,4 @@
-ghost use Rattle.std.specs.Prelude.{◌≡◌, ◌<◌, Err, IfOk, MatchResult, Ok, false, is_some, option_map, string_bytes};
+ghost use Rattle.std.specs.Prelude.{◌≡◌, ◌<◌, Err, IfOk, IsTrue, MatchResult, Ok, false, is_some, option_map, string_bytes};
 ghost use Rattle.std.specs.Option.{option_copied};
 ghost use Rattle.kd_print.specs.Status.{status_of};
 ghost use Rattle.kd_io.specs.Faults.{start_fault_number};
@@ -54,7 +54,8 @@ pub enum Work {
 // datagrams need not wait for one commit each; otherwise 1. It is also 1 if replies go to the
 // sender, which is known only for the last datagram.
 fn batch_size(is_file: bool, mirror: bool) -> usize
-    ensures { 0 < result }
+    ensures some { 0 < result }
+    ensures mirrored { IsTrue mirror → result ≡ 1 }
 {
     if is_file && !mirror { 32 } else { 1 }
 }
