@@ -1,5 +1,5 @@
 -- Openings over files, one after another.
-use Rattle.std.proofs.Common.{◌≡◌, inl, inr, List, [], None, Some, subst, sym}
+use Rattle.std.proofs.Common.{inl, inr, List, None, Some, subst, sym}
 use Rattle.std.proofs.lemmas.Option.{none-some, same_Some}
 use Rattle.sqlite_disk.specs.declared.Disk.{Ghosts as Disks}
 use Rattle.sqlite_store.specs.declared.store.FileStore.{FileStore}

@@ -1,5 +1,5 @@
 -- A command over files, by what the machine says of its answers.
-use Rattle.std.proofs.Common.{◌≡◌, ◌⊎◌, inl, inr, ℕ, true, false, List, Option, None, Some, Result, Ok, Err, IfOk, MatchResult, is_some, option_map, string_bytes, refl, subst}
+use Rattle.std.proofs.Common.{◌≡◌, ◌⊎◌, inl, inr, ℕ, true, false, List, Option, None, Some, Result, Ok, Err, IfOk, IfErr, MatchResult, is_some, option_map, string_bytes, refl, subst}
 use Rattle.sqlite_disk.specs.declared.Disk.{Ghosts as Disks}
 use Rattle.sqlite_store.specs.FileStore.{view}
 use Rattle.sqlite_store.specs.declared.store.FileStore.{FileStore}
@@ -9,13 +9,12 @@ use Rattle.kd_commands.specs.declared.orders.Order.{Order}
 use Rattle.kd_config.specs.Configuration.{Configuration}
 use Rattle.kd_database.specs.Stops.{LiesBelow}
 use Rattle.kd_database.specs.Stores.{IsStoreIn, StandsAsHeld, StandsNew}
-use Rattle.kd_host.specs.OnFiles.{IsStatusOnFiles, Left, ReadsNone, RunsOnFiles, ServesFiles, order_of}
-use Rattle.kd_io.specs.Faults.{start_fault_number}
+use Rattle.kd_host.specs.OnFiles.{GivesNoStore, IsStatusOnFiles, Left, ReadsNone, RunsOnFiles, ServesFiles, TellsRefusal, order_of}
 use Rattle.kd_io.specs.Start.{IsOfFiles}
-use Rattle.kd_keeps.specs.Fault.{store_fault_number}
+use Rattle.kd_keeps.specs.declared.fault.StoreFault.{StoreFault}
 use Rattle.kd_keeps.specs.declared.keeps.Keeps.{Ghosts}
 use Rattle.kd_program.specs.Running.{Carries, CarriesOut, HasConfiguration, IsStoreFor, IsStoreFound, Starts, WorksOver}
-use Rattle.kd_program.specs.Streams.{At, Streams, Tells}
+use Rattle.kd_program.specs.Streams.{At, Streams}
 use Rattle.kd_program.specs.declared.host.Host.{Ghosts as Hosts}
 use Rattle.kd_program.specs.declared.listing.View.TheVariants as views
 use Rattle.kd_commands.specs.declared.orders.Files.{Files}
@@ -37,6 +36,7 @@ module _ {D H U L R : Type 0} (d : Disks D) (h : Hosts H (Kept (FileStore D d)) 
         → IsOfFiles (is_some file) (is_some folder) config
     pub opens : (before : H) (path : List ℕ) (store : Kept (FileStore D d)) (after : H) → h.opens before path (Ok store) after
         → StandsAsHeld image store × StandsNew image store × IsStoreIn image store
+    pub refuses : (before : H) (path : List ℕ) (fault : StoreFault) (after : H) → h.opens before path (Err fault) after → GivesNoStore d image fault
     pub closes : (before : H) (path : List ℕ) (back : Kept (FileStore D d)) (after : H) → h.closes before path back after
         → (it : FileStore D d) × (left_of after ≡ Some it) × (IsClean (view it) → LiesBelow back.conn it)
 
@@ -45,7 +45,7 @@ module _ {D H U L R : Type 0} (d : Disks D) (h : Hosts H (Kept (FileStore D d)) 
   left_at after = record { streams = after.streams; below = left_of after.host }
 
   abbrev Told : At H → At H → ℕ → Type 0
-  Told before after status = (number : ℕ) × Tells number status before.streams after.streams
+  Told before after status = TellsRefusal d h k l r image before.streams after.streams status
 
   of_files : (files : Files) (config : Configuration) → IsOfFiles (is_some (option_map string_bytes files.config)) (is_some (option_map string_bytes files.token_dir)) config
       → IsOfFiles (is_some files.config) (is_some files.token_dir) config
@@ -78,7 +78,7 @@ module _ {D H U L R : Type 0} (d : Disks D) (h : Hosts H (Kept (FileStore D d)) 
         below_is = closed.1;
         leaves = closed.2;
       })
-  worked says files work path before after status c (inr none) = inr (inl (store_fault_number none.fault, none.told))
+  worked says files work path before after status c (inr none) = inr (inl (inr (none.fault, says.refuses _ path none.fault _ none.given, none.told)))
 
   -- work is done over the store at the path, once it is known to be that one
   at_path : Says → (files : Files) (work : Work) (path : List ℕ) (before after : At H) (status : ℕ) → (c : HasConfiguration h k unnamed l r files work before after status)
@@ -106,7 +106,7 @@ module _ {D H U L R : Type 0} (d : Disks D) (h : Hosts H (Kept (FileStore D d)) 
       → Starts h k unnamed l r files work before after status → Ends files work path before after status
   started says files work path before after status named (inl c) =
       chosen says files work path before after status c (subst (λ o. IsStoreFor h o work c.asked c.store) named c.is_for)
-  started says files work path before after status named (inr none) = inr (inl (start_fault_number none.fault, none.told))
+  started says files work path before after status named (inr none) = inr (inl (inl (none.fault, none.told)))
 
   ordered : Says → (files : Files) (work : Work) (path : List ℕ) (before after : At H) (status : ℕ) → option_map string_bytes files.store ≡ Some path
       → CarriesOut h k unnamed l r (order_of files work) before after status → Ends files work path before after status
@@ -129,9 +129,10 @@ module _ {D H U L R : Type 0} (d : Disks D) (h : Hosts H (Kept (FileStore D d)) 
   }
 
 -- what a store says of a result, in both cases
-pub given_store : {V E : Type 0} (P Q R : V → Type 0) (r : Result V E) → IfOk r P → IfOk r Q → IfOk r R → MatchResult r (λ v. P v × Q v × R v) (λ e. Unit {0})
-given_store P Q R (Ok v) p q s = (p, q, s)
-given_store P Q R (Err e) p q s = tt
+pub given_store : {V E : Type 0} (P Q R : V → Type 0) (S T : E → Type 0) (r : Result V E) → IfOk r P → IfOk r Q → IfOk r R → IfErr r S
+    → MatchResult r (λ v. (P v × Q v × R v) × Unit {0}) (λ e. Unit {0} × (S e ⊎ T e))
+given_store P Q R S T (Ok v) p q s t = ((p, q, s), tt)
+given_store P Q R S T (Err e) p q s t = (tt, inl t)
 
 -- a command that was carried out over some streams ends with a status over some
 pub some_streams : {D H U L R : Type 0} {d : Disks D} {h : Hosts H (Kept (FileStore D d)) U L R} {k : Ghosts (Kept (FileStore D d))} {l : Links L} {r : Sinks R} {image : Image} {words : List (List ℕ)} {status : ℕ}

@@ -13,9 +13,15 @@ use Rattle.kd_commands.specs.declared.orders.Order.TheVariants as orders
 use Rattle.kd_config.specs.Configuration.{Configuration}
 use Rattle.kd_database.specs.Image.{AreRowsIn, bytes_image}
 use Rattle.kd_database.specs.Stops.{LiesBelow}
-use Rattle.kd_database.specs.Stores.{IsStoreIn, StandsAsHeld, StandsNew}
+use Rattle.kd_database.specs.Stores.{IsNoStoreIn, IsStoreIn, StandsAsHeld, StandsNew}
+use Rattle.kd_io.specs.Faults.{start_fault_number}
 use Rattle.kd_io.specs.Start.{IsOfFiles}
 use Rattle.kd_io.specs.declared.link.Sending.{Sending}
+use Rattle.kd_io.specs.declared.start.StartFault.{StartFault}
+use Rattle.kd_keeps.specs.Fault.{store_fault_number}
+use Rattle.kd_keeps.specs.declared.fault.Cause.TheVariants.{Closed}
+use Rattle.kd_keeps.specs.declared.fault.StoreFault.{StoreFault}
+use Rattle.kd_keeps.specs.declared.fault.StoreFault.TheVariants.{Sql}
 use Rattle.kd_keeps.specs.declared.keeps.Keeps.{Ghosts}
 use Rattle.kd_program.specs.Running.{ServesWork}
 use Rattle.kd_program.specs.Streams.{Stream, Streams, Tells, TellsWith}
@@ -55,6 +61,11 @@ order_of files (works.Show (views.Why word at)) = orders.Why files false at word
 order_of files (works.Serve service) =
     orders.Serve files service.listening service.count service.journal service.max_ahead
 
+-- why the files of a store that held these bytes are not opened: there is no store in them, or they
+-- were opened before
+abbrev pub GivesNoStore : {D : Type 0} → Disks D → Image → StoreFault → Type 0
+GivesNoStore d image fault = IsNoStoreIn d image fault ⊎ (fault ≡ Sql Closed)
+
 -- what a command leaves: its streams, and what is below its store, if it had one
 pub record Left (F : Type 0) : Type 0 where
   pub streams : Streams
@@ -86,6 +97,13 @@ module _ {D H U L R : Type 0} (d : Disks D) (h : Hosts H (Kept (FileStore D d)) 
     pub below_is : left.below ≡ Some it
     pub leaves : IsClean (view it) → LiesBelow back.conn it
 
+  -- there is no configuration, or no store, and this is reported
+  abbrev pub TellsRefusal : Image → Streams → Streams → ℕ → Type 0
+  TellsRefusal image old new status =
+      ((fault : StartFault) × Tells (start_fault_number fault) status old new)
+      ⊎ ((fault : StoreFault) × GivesNoStore d image fault
+      × Tells (store_fault_number fault) status old new)
+
   -- work only reads, and a trial of its path found no database, so that it is done over none
   abbrev pub ReadsNone : Work → List ℕ → Type 0
   ReadsNone works.Replay path = ⊥
@@ -94,7 +112,8 @@ module _ {D H U L R : Type 0} (d : Disks D) (h : Hosts H (Kept (FileStore D d)) 
   ReadsNone (works.Serve service) path = ⊥
 
   -- what arguments do: arguments that are not an order have a fault, which is reported; if they
-  -- name a store, a server works over its files, or a fault is reported, or there are none to read
+  -- name a store, a server works over its files, or it is reported why there is no configuration or
+  -- no store, or there are no files to read
   pub record RunsOnFiles (image : Image) (words : List (List ℕ)) (old : Streams)
       (left : Left (FileStore D d)) (status : ℕ) : Type 0 where
     pub comes_to : ((fault : LineFault) × HasFault words fault
@@ -103,7 +122,7 @@ module _ {D H U L R : Type 0} (d : Disks D) (h : Hosts H (Kept (FileStore D d)) 
         × ((files : Files) (work : Work) (path : List ℕ) → order ≡ order_of files work
         → option_map string_bytes files.store ≡ Some path
         → ServesFiles image files work old left status
-        ⊎ (((number : ℕ) × Tells number status old left.streams) ⊎ ReadsNone work path)))
+        ⊎ (TellsRefusal image old left.streams status ⊎ ReadsNone work path)))
 
   -- a command over some streams ends with this status
   abbrev pub IsStatusOnFiles : Image → List (List ℕ) → ℕ → Type 0

@@ -12,6 +12,7 @@ use kd_replay::EndFailed;
 use kd_rows::Row;
 use kd_store::Store;
 use sqlite::{FileFrom, FileStore, Start};
+use sqlite_disk::Disk;
 use std::alloc::{AllocError, Global};
 use std::fs::File;
 use std::net::UdpSocket;
@@ -58,14 +59,14 @@ impl<'a, F: Start> Machine<'a, F, Below<F>> {
 }
 
 impl<'a, F: Start> Host for Machine<'a, F, Below<F>> {
-    ghost use Rattle.std.specs.Prelude.{◌≡◌, IfOk, Some, false, is_some, true};
+    ghost use Rattle.std.specs.Prelude.{◌≡◌, IfErr, IfOk, Some, false, is_some, true};
     ghost use Rattle.sqlite_store.specs.FileStore.{view};
     ghost use Rattle.sqlite_trees.specs.View.{IsClean};
     ghost use Rattle.sqlite_wal.specs.Files.{image_at};
     ghost use Rattle.kd_database.specs.Stops.{LiesBelow};
     ghost use Rattle.kd_database.specs.Stores.{IsStoreIn, StandsAsHeld, StandsNew};
     ghost use Rattle.kd_io.specs.Start.{IsOfFiles};
-    ghost use Rattle.kd_host.specs.OnFiles.{AreRowsFound, IsOfHanded, sending_of};
+    ghost use Rattle.kd_host.specs.OnFiles.{AreRowsFound, GivesNoStore, IsOfHanded, sending_of};
 
     type Named = Store<Below<F>>;
 
@@ -80,7 +81,8 @@ impl<'a, F: Start> Host for Machine<'a, F, Below<F>> {
 
     ghost opens = { λ old path result new.
         IfOk result (λ store. StandsAsHeld (image_at F.Start) store
-        × StandsNew (image_at F.Start) store × IsStoreIn (image_at F.Start) store) };
+        × StandsNew (image_at F.Start) store × IsStoreIn (image_at F.Start) store)
+        × IfErr result (GivesNoStore ⟦<FileFrom<F> as Disk>⟧ (image_at F.Start)) };
 
     ghost makes = { λ old result new. IfOk result (λ store. store.is_new ≡ true) };
 
