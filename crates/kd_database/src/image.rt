@@ -68,9 +68,10 @@ pub(crate) fn file_of(alloc: Global, bytes: &[u8]) -> Result<Memory, StoreFault>
 fn rows_on<D: Disk + Drop>(alloc: Global, files: Files<D>) -> Result<Option<Vec<Row>>, StoreFault>
     requires log { IsTrue (D.Disk.is_usable files.log) }
     requires db { IsTrue (D.Disk.is_usable files.db) }
-    ensures over { IfOk result (λ found. IfSome found (λ rows. AreRowsOver ⟦<Store<FileStore<D>> as Keeps>⟧
-        (image_of D.Disk files) rows.items)) }
-    ensures listed { IfOk result (λ found. IsListed D.Disk (image_of D.Disk files) (is_some found)) }
+    ensures over { IfOk result (λ found. IfSome found (λ rows.
+        AreRowsOver ⟦<Store<FileStore<D>> as Keeps>⟧ (image_of D.Disk files) rows.items)) }
+    ensures listed { IfOk result (λ found.
+        IsListed D.Disk (image_of D.Disk files) (is_some found)) }
     ensures refused { IfErr result (IsNoStoreIn D.Disk (image_of D.Disk files)) }
 {
     match Connection::open_files(alloc, files, Options::new(0)) {
