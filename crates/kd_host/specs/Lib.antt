@@ -1,2 +1,1 @@
-pub mod AcrossRuns
 pub mod OnFiles

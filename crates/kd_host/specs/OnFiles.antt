@@ -11,12 +11,15 @@ use Rattle.kd_commands.specs.declared.orders.Listening.{Listening}
 use Rattle.kd_commands.specs.declared.orders.Order.{Order}
 use Rattle.kd_commands.specs.declared.orders.Order.TheVariants as orders
 use Rattle.kd_config.specs.Configuration.{Configuration}
-use Rattle.kd_database.specs.Image.{AreRowsIn, bytes_image}
+use Rattle.kd_database.specs.Image.{AreRowsIn, LacksTable, bytes_image}
 use Rattle.kd_database.specs.Stops.{LiesBelow}
 use Rattle.kd_database.specs.Stores.{IsNoStoreIn, IsStoreIn, StandsAsHeld, StandsNew}
 use Rattle.kd_io.specs.Faults.{start_fault_number}
-use Rattle.kd_io.specs.Start.{IsOfFiles}
+use Rattle.kd_io.specs.Looking.{IsCopyFault}
+use Rattle.kd_io.specs.Start.{IsNoStartOfFiles, IsOfFiles}
 use Rattle.kd_io.specs.declared.link.Sending.{Sending}
+use Rattle.kd_io.specs.declared.look.LookFault.{LookFault}
+use Rattle.kd_io.specs.declared.look.LookFault.TheVariants as looks
 use Rattle.kd_io.specs.declared.start.StartFault.{StartFault}
 use Rattle.kd_keeps.specs.Fault.{store_fault_number}
 use Rattle.kd_keeps.specs.declared.fault.Cause.TheVariants.{Closed}
@@ -51,6 +54,13 @@ IsOfHanded below (Some (Err fault)) result = result ≡ Err fault
 -- rows are those in the bytes of a database and of its log
 abbrev pub AreRowsFound : List Row → Type 0
 AreRowsFound rows = (log db : List ℕ) × AreRowsIn (bytes_image log db) rows
+
+-- why there are no rows of a copy: the bytes of a database and of its log hold no table of leases,
+-- there is no store in them, or there is no copy
+abbrev pub GivesNoRows : {D : Type 0} → Disks D → LookFault → Type 0
+GivesNoRows d looks.NoTable = (log db : List ℕ) × LacksTable (bytes_image log db)
+GivesNoRows d (looks.Store fault) = (log db : List ℕ) × IsNoStoreIn d (bytes_image log db) fault
+GivesNoRows d fault = IsCopyFault fault
 
 -- the order for work over files
 abbrev pub order_of : Files → Work → Order
@@ -90,17 +100,19 @@ module _ {D H U L R : Type 0} (d : Disks D) (h : Hosts H (Kept (FileStore D d)) 
     pub back : Kept (FileStore D d)
     pub before : H
     pub after : H
-    pub serves : ServesWork h l r k work config
+    pub serves : ServesWork h l r k (option_map string_bytes files.store) work config
         (record { held = store; at = record { host = before; streams = old } })
         (record { held = back; at = record { host = after; streams = left.streams } }) status
     pub it : FileStore D d
     pub below_is : left.below ≡ Some it
     pub leaves : IsClean (view it) → LiesBelow back.conn it
 
-  -- there is no configuration, or no store, and this is reported
-  abbrev pub TellsRefusal : Image → Streams → Streams → ℕ → Type 0
-  TellsRefusal image old new status =
-      ((fault : StartFault) × Tells (start_fault_number fault) status old new)
+  -- these files give no configuration, or there is no store, and this is reported
+  abbrev pub TellsRefusal : Image → Files → Streams → Streams → ℕ → Type 0
+  TellsRefusal image files old new status =
+      ((fault : StartFault)
+      × IsNoStartOfFiles (is_some files.config) (is_some files.token_dir) fault
+      × Tells (start_fault_number fault) status old new)
       ⊎ ((fault : StoreFault) × GivesNoStore d image fault
       × Tells (store_fault_number fault) status old new)
 
@@ -122,12 +134,7 @@ module _ {D H U L R : Type 0} (d : Disks D) (h : Hosts H (Kept (FileStore D d)) 
         × ((files : Files) (work : Work) (path : List ℕ) → order ≡ order_of files work
         → option_map string_bytes files.store ≡ Some path
         → ServesFiles image files work old left status
-        ⊎ (TellsRefusal image old left.streams status ⊎ ReadsNone work path)))
-
-  -- a command over some streams ends with this status
-  abbrev pub IsStatusOnFiles : Image → List (List ℕ) → ℕ → Type 0
-  IsStatusOnFiles image words status =
-      (old : Streams) × (left : Left (FileStore D d)) × RunsOnFiles image words old left status
+        ⊎ (TellsRefusal image files old left.streams status ⊎ ReadsNone work path)))
 
 -- a fault with this number is reported on some stream, with this status
 abbrev pub IsStatusOf : ℕ → ℕ → Type 0

@@ -12,7 +12,7 @@ use kd_replay::EndFailed;
 use kd_rows::Row;
 use kd_store::Store;
 use sqlite::{FileFrom, FileStore, Start};
-use sqlite_disk::Disk;
+use sqlite_disk::{Disk, Memory};
 use std::alloc::{AllocError, Global};
 use std::fs::File;
 use std::net::UdpSocket;
@@ -65,8 +65,8 @@ impl<'a, F: Start> Host for Machine<'a, F, Below<F>> {
     ghost use Rattle.sqlite_wal.specs.Files.{image_at};
     ghost use Rattle.kd_database.specs.Stops.{LiesBelow};
     ghost use Rattle.kd_database.specs.Stores.{IsStoreIn, StandsAsHeld, StandsNew};
-    ghost use Rattle.kd_io.specs.Start.{IsOfFiles};
-    ghost use Rattle.kd_host.specs.OnFiles.{AreRowsFound, GivesNoStore, IsOfHanded, sending_of};
+    ghost use Rattle.kd_io.specs.Start.{IsNoStartOfFiles, IsOfFiles};
+    ghost use Rattle.kd_host.specs.OnFiles.{AreRowsFound, GivesNoRows, GivesNoStore, IsOfHanded, sending_of};
 
     type Named = Store<Below<F>>;
 
@@ -77,7 +77,8 @@ impl<'a, F: Start> Host for Machine<'a, F, Below<F>> {
     type Journal = Output<File>;
 
     ghost configures = { λ old file folder result new.
-        IfOk result (IsOfFiles (is_some file) (is_some folder)) };
+        IfOk result (IsOfFiles (is_some file) (is_some folder))
+        × IfErr result (IsNoStartOfFiles (is_some file) (is_some folder)) };
 
     ghost opens = { λ old path result new.
         IfOk result (λ store. StandsAsHeld (image_at F.Start) store
@@ -89,7 +90,8 @@ impl<'a, F: Start> Host for Machine<'a, F, Below<F>> {
     ghost closes = { λ old path store new.
         (it : _) × (new.left ≡ Some it) × (IsClean (view it) → LiesBelow store.conn it) };
 
-    ghost copies = { λ old path result new. IfOk result AreRowsFound };
+    ghost copies = { λ old path result new.
+        IfOk result AreRowsFound × IfErr result (GivesNoRows ⟦<Memory as Disk>⟧) };
 
     ghost binds = { λ old listening result new.
         IfOk result (λ link. link.sending ≡ sending_of listening)

@@ -3,11 +3,11 @@ ghost use Rattle.sqlite_wal.specs.Files.{image_at};
 ghost use Rattle.kd_program.specs.Running.{Carries};
 ghost use Rattle.kd_program.specs.Streams.{at_ends, streams};
 ghost use Rattle.kd_commands.specs.Order.{line_fault_number};
-ghost use Rattle.kd_host.specs.OnFiles.{IsStatusOf, IsStatusOnFiles, RunsOnFiles};
+ghost use Rattle.kd_host.specs.OnFiles.{IsStatusOf, RunsOnFiles};
 
 use crate::machine::{Below, Machine};
 use kd_commands::LineFault;
-use kd_io::{Input, Output, Socket, inherited_socket};
+use kd_io::{Output, Socket};
 use kd_keeps::{Keeps, Volatile};
 use kd_program::{Host, StandardEnds, refuse_words, run};
 use kd_replay::{Link, Sink, Source};
@@ -40,33 +40,6 @@ pub fn run_on<'a, F: Start, R: Source, O: Sink, E: Sink>(
         }) result }
 {
     run(machine.rt.alloc(), words, machine, ends)
-}
-
-/// Carries out the arguments after the program's name over this machine and its standard streams,
-/// and returns the exit status. The version is the line that `--version` prints. A socket that was
-/// handed to the process is used by `serve`.
-pub fn carry_out<'a, F: Start>(
-    rt: &'a HostRuntime,
-    version: &'a str,
-    start: F,
-    words: &[String],
-) -> u8
-    ensures { IsStatusOnFiles ⟦<FileFrom<F> as Disk>⟧ ⟦<Machine<'a, F, Below<F>> as Host>⟧
-        ⟦<Store<Below<F>> as Keeps>⟧ ⟦<Socket<'a> as Link>⟧ ⟦<Output<File> as Sink>⟧ (image_at F.Start)
-        (map string_bytes words.now) result }
-{
-    let handed = inherited_socket(rt);
-    let stderr = rt.stderr();
-    let mut ends = StandardEnds {
-        input: Input::over(rt.reader()),
-        output: Output::over(io::writer(rt)),
-        faults: Output::over(io::writer(&stderr)),
-    };
-    run_on(
-        &mut Machine::of(rt, version, start, handed),
-        words,
-        &mut ends,
-    )
 }
 
 /// Reports on standard error why there are no arguments, and returns the exit status.

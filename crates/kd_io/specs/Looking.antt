@@ -6,6 +6,8 @@ use Rattle.std.specs.Prelude.{◌≡◌, ◌≢◌, ℕ, suc, zero, List, [], �
 use Rattle.kd_io.specs.declared.look.Copied.{Copied}
 use Rattle.kd_io.specs.declared.look.FilePart.{FilePart}
 use Rattle.kd_io.specs.declared.look.FilePart.TheVariants.{Header, Database, Log}
+use Rattle.kd_io.specs.declared.look.LookFault.{LookFault}
+use Rattle.kd_io.specs.declared.look.LookFault.TheVariants as faults
 
 -- how many times a copy is tried
 abbrev pub most_tries : ℕ
@@ -52,3 +54,10 @@ IsTry (Some copy) old new =
 IsTry None old new =
     (before db log after : List ℕ) × (before ≢ after)
     × AreReadAs (one_try before db log after) old new
+
+-- a fault of copying, and not of what the bytes hold: a file cannot be read, or the header changed
+-- at each try
+abbrev pub IsCopyFault : LookFault → Type 0
+IsCopyFault (faults.Input fault) = Unit {0}
+IsCopyFault faults.Unsettled = Unit {0}
+IsCopyFault other = ⊥

@@ -1,7 +1,8 @@
 -- What a server starts with: the configuration of a text that was read, or the built-in one.
-use Rattle.std.specs.Prelude.{◌≡◌, ◌≢◌, ◌≤◌, ℕ, Bool, false, List, [], length, Option, Some, None, is_some, IfSome}
+use Rattle.std.specs.Prelude.{◌≡◌, ◌≢◌, ◌≤◌, ◌⊎◌, ℕ, Bool, false, true, List, [], length, Option, Some, None, is_some, IfSome}
 use Rattle.kd_config.specs.Configuration.{Configuration, builtin_config}
 use Rattle.kd_config.specs.Configured.{IsConfigured}
+use Rattle.kd_config.specs.declared.fault.ConfigFault.{ConfigFault}
 use Rattle.kd_config.specs.declared.fault.ConfigFault.TheVariants as configs
 use Rattle.kd_config.specs.declared.token_file.TokenFile.{TokenFile}
 use Rattle.kd_io.specs.declared.files.InputFault.TheVariants as inputs
@@ -33,3 +34,20 @@ pub record IsOfFiles (has_file has_folder : Bool) (c : Configuration) : Type 0 w
   pub files : List TokenFile
   pub of_folder : AreOfFolder has_folder files
   pub start : IsStart text files c
+
+-- a file is named, and its text has this fault with the token files of the folder
+pub record HasTextFault (has_file has_folder : Bool) (fault : ConfigFault) : Type 0 where
+  pub named : has_file ≡ true
+  pub text : List ℕ
+  pub short : length text ≤ 16777216
+  pub files : List TokenFile
+  pub of_folder : AreOfFolder has_folder files
+  pub refused : IsNoStart (Some text) files (starts.Config fault)
+
+-- why files give no configuration: memory ran out, a file or a folder that is named cannot be read,
+-- or the text has a fault
+abbrev pub IsNoStartOfFiles : Bool → Bool → StartFault → Type 0
+IsNoStartOfFiles has_file has_folder (starts.Input fault) =
+    (fault ≡ inputs.Memory) ⊎ ((has_file ≡ true) ⊎ (has_folder ≡ true))
+IsNoStartOfFiles has_file has_folder (starts.Config fault) =
+    HasTextFault has_file has_folder fault

@@ -1,6 +1,6 @@
-ghost use Rattle.std.specs.Prelude.{◌≡◌, Err, IfOk};
+ghost use Rattle.std.specs.Prelude.{◌≡◌, Err, IfErr, IfOk};
 ghost use Rattle.kd_io.specs.Faults.{look_fault_number};
-ghost use Rattle.kd_io.specs.Looking.{IsSettledCopy, IsUnsettled, IsTry, most_tries};
+ghost use Rattle.kd_io.specs.Looking.{IsCopyFault, IsSettledCopy, IsUnsettled, IsTry, most_tries};
 ghost use Rattle.kd_io.specs.declared.look.LookFault.TheVariants as faults;
 
 use crate::files::InputFault;
@@ -131,6 +131,7 @@ pub fn settled_copy<W: Watched>(files: &mut W) -> Result<Copied, LookFault>
         IsSettledCopy copy.log copy.db (W.trace files.old) (W.trace files.new)) }
     ensures unsettled { result ≡ Err faults.Unsettled
         → IsUnsettled most_tries (W.trace files.old) (W.trace files.new) }
+    ensures of_copying { IfErr result IsCopyFault }
 {
     for _ in 0..TRIES {
         if let Some(copy) = tried_copy(files)? {

@@ -1,7 +1,7 @@
-ghost use Rattle.std.specs.Prelude.{◌≡◌, IfErr, IfOk, is_some};
+ghost use Rattle.std.specs.Prelude.{◌≡◌, IfErr, IfOk, is_some, true};
 ghost use Rattle.std.specs.Option.{option_copied};
 ghost use Rattle.kd_io.specs.Faults.{start_fault_number};
-ghost use Rattle.kd_io.specs.Start.{AreOfFolder, IsNoStart, IsOfFiles, IsStart};
+ghost use Rattle.kd_io.specs.Start.{AreOfFolder, IsNoStart, IsNoStartOfFiles, IsOfFiles, IsStart};
 
 use crate::files::{InputFault, MOST_BYTES, read_file, token_files};
 use kd_config::{Config, ConfigFault, TokenFile};
@@ -105,7 +105,8 @@ pub fn configuration<R: Files + AllocGlobal + Clone + Drop>(
     file: Option<&str>,
     folder: Option<&str>,
 ) -> Result<Config, StartFault>
-    ensures { IfOk result (IsOfFiles (is_some file.entry) (is_some folder.entry)) }
+    ensures found { IfOk result (IsOfFiles (is_some file.entry) (is_some folder.entry)) }
+    ensures refused { IfErr result (IsNoStartOfFiles (is_some file.entry) (is_some folder.entry)) }
 {
     let tokens = tokens_in(rt, folder)?;
     match file {
@@ -122,7 +123,8 @@ fn tokens_in<R: Files + AllocGlobal + Clone + Drop>(
     rt: &R,
     folder: Option<&str>,
 ) -> Result<Vec<TokenFile>, InputFault>
-    ensures { IfOk result (λ tokens. AreOfFolder (is_some folder.entry) tokens.items) }
+    ensures found { IfOk result (λ tokens. AreOfFolder (is_some folder.entry) tokens.items) }
+    ensures refused { IfErr result (λ _. is_some folder.entry ≡ true) }
 {
     match folder {
         Some(folder) => token_files(rt, folder),

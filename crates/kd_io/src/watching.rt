@@ -1,3 +1,6 @@
+ghost use Rattle.std.specs.Prelude.{IfErr};
+ghost use Rattle.kd_io.specs.Looking.{IsCopyFault};
+
 use crate::files::{InputFault, read_whole};
 use crate::look::{Copied, LookFault, Watched, settled_copy};
 use kd_wire::Bytes;
@@ -61,7 +64,9 @@ fn whole<R: Read + Drop>(alloc: Global, reader: R) -> Result<Bytes, InputFault> 
 /// # Errors
 ///
 /// Those of `settled_copy`; the database does not exist, or has 4 GiB or more.
-pub fn copy_at<R: Files + AllocGlobal>(rt: &R, path: &str) -> Result<Copied, LookFault> {
+pub fn copy_at<R: Files + AllocGlobal>(rt: &R, path: &str) -> Result<Copied, LookFault>
+    ensures { IfErr result IsCopyFault }
+{
     let real = fs::canonicalize(rt, path).map_err(InputFault::from)?;
     let log = log_path(rt.alloc(), real.as_str()).map_err(InputFault::from)?;
     settled_copy(&mut AtPaths {

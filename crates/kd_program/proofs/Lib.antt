@@ -1,5 +1,6 @@
 pub mod Answered
+pub mod Grouped
 pub mod Imported
-pub mod Opened
+pub mod Reported
 pub mod Risen
 pub mod Told

@@ -1,9 +1,9 @@
+pub mod Banner
 pub mod Checking
 pub mod Explaining
 pub mod Importing
 pub mod Listing
-pub mod Openings
 pub mod Printing
+pub mod Report
 pub mod Running
-pub mod Staging
 pub mod Streams

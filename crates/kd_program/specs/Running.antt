@@ -1,5 +1,5 @@
 -- What the arguments of a command line do: what is written, and the exit status.
-use Rattle.std.specs.Prelude.{◌≡◌, ◌⊎◌, ℕ, Bool, false, true, List, Option, Some, None, Result, Ok, Err, if◌then◌else◌, is_some, option_map, string_bytes, vec_items}
+use Rattle.std.specs.Prelude.{◌≡◌, ◌⊎◌, ◌++◌, ℕ, Bool, false, true, List, Option, Some, None, Result, Ok, Err, if◌then◌else◌, is_some, option_map, string_bytes, vec_items}
 use Rattle.std.specs.Result.{IsErrOf}
 use Rattle.kd_print.specs.Printed.{Answers}
 use Rattle.kd_print.specs.Status.{replay_status_of, serve_status_of}
@@ -32,6 +32,7 @@ use Rattle.kd_replay.specs.declared.fault.ServeFault.{ServeFault}
 use Rattle.kd_server.specs.Batch.{Batched}
 use Rattle.kd_server.specs.Keeping.{IsUnopened, Keeping, Opens, Refuses, Steps, latest_in}
 use Rattle.kd_events.specs.declared.filter.Filter.{Filter}
+use Rattle.kd_program.specs.Banner.{removed_line, serving_line}
 use Rattle.kd_program.specs.Checking.{ChecksStart}
 use Rattle.kd_program.specs.Importing.{ImportsInto}
 use Rattle.kd_program.specs.Explaining.{ExplainsLine, standard_trial}
@@ -144,9 +145,10 @@ module _ {H N U L R : Type 0} (h : Hosts H N U L R) (r : Sinks R) where
 module _ {H N U L R S : Type 0} (h : Hosts H N U L R) (l : Links L) (r : Sinks R)
     (g : Ghosts S) where
   -- the host gives a socket and, if there is a path for one, a record, and neither has failed; a
-  -- line reports what the server does, and it serves datagrams of that socket
-  pub record BeginsServing (service : Service) (before after : With (Keeping S) H)
-      (status : ℕ) : Type 0 where
+  -- line reports what was removed from the end of the record, if anything, and the next one what
+  -- the server is, with the path of its store; and it serves datagrams of that socket
+  pub record BeginsServing (store : Option (List ℕ)) (service : Service)
+      (before after : With (Keeping S) H) (status : ℕ) : Type 0 where
     pub link : L
     pub bound : H
     pub given : h.binds before.at.host service.listening (Ok link) bound
@@ -155,9 +157,12 @@ module _ {H N U L R S : Type 0} (h : Hosts H N U L R) (l : Links L) (r : Sinks R
     pub records : GivesJournal h r bound (option_map string_bytes service.journal) (Ok journal)
         after.at.host
     pub record_works : failed_in r journal ≡ false
-    pub line : List ℕ
+    pub removed : ℕ
     pub between : Stream
-    pub told : Puts line before.at.streams.faults between
+    pub line : Puts
+        (removed_line (option_map string_bytes service.journal) removed
+        ++ serving_line service.listening before.held.config before.held.rows store)
+        before.at.streams.faults between
     pub rest : L
     pub recorded : Option R
     pub receives : Receives l r g service
@@ -202,35 +207,37 @@ module _ {H N U L R S : Type 0} (h : Hosts H N U L R) (l : Links L) (r : Sinks R
     pub told : Starves status before.streams after.streams
 
   -- a server serves datagrams of the host's socket, or stays as it is
-  abbrev pub Listens : Service → With (Keeping S) H → With (Keeping S) H → ℕ → Type 0
-  Listens service before after status =
-      BeginsServing service before after status
+  abbrev pub Listens : Option (List ℕ) → Service → With (Keeping S) H → With (Keeping S) H → ℕ → Type 0
+  Listens store service before after status =
+      BeginsServing store service before after status
       ⊎ ((after.held ≡ before.held) × (HasNoSocket service.listening before.at after.at status
       ⊎ (HasNoJournal service before.at after.at status
       ⊎ HasNoLine service before.at after.at status)))
 
-  -- the work that a server is opened for
-  abbrev pub Works : Work → With (Keeping S) H → With (Keeping S) H → ℕ → Type 0
-  Works works.Replay before after status =
+  -- the work that a server is opened for over the store at a path, or in memory if there is none
+  abbrev pub Works : Option (List ℕ) → Work → With (Keeping S) H → With (Keeping S) H → ℕ → Type 0
+  Works store works.Replay before after status =
       (after.at.host ≡ before.at.host)
       × ReplaysInput g before.held after.held status before.at.streams after.at.streams
-  Works (works.Explain number) before after status =
+  Works store (works.Explain number) before after status =
       (after.at.host ≡ before.at.host) × ((after.held ≡ before.held)
       × ExplainsLine (standard_trial before.held.config before.held.rows) number status
       before.at.streams after.at.streams)
-  Works (works.Show view) before after status =
+  Works store (works.Show view) before after status =
       (after.at.host ≡ before.at.host) × ((after.held ≡ before.held)
       × ShowsView view (is_some (g.fault before.held.store)) before.held.config before.held.rows
       status before.at.streams after.at.streams)
-  Works (works.Serve service) before after status = Listens service before after status
+  Works store (works.Serve service) before after status =
+      Listens store service before after status
 
-  -- a server with a configuration is opened over a store, does its work, and returns its store
-  pub record IsServed (work : Work) (config : Configuration) (before after : With S H)
-      (status : ℕ) : Type 0 where
+  -- a server with a configuration is opened over a store, at this path if it has one, does its
+  -- work, and returns its store
+  pub record IsServed (store : Option (List ℕ)) (work : Work) (config : Configuration)
+      (before after : With S H) (status : ℕ) : Type 0 where
     pub server : Keeping S
     pub opened : Opens g (ports_asked work) config before.held server
     pub left : Keeping S
-    pub worked : Works work (record { held = server; at = before.at })
+    pub worked : Works store work (record { held = server; at = before.at })
         (record { held = left; at = after.at }) status
     pub closed : after.held ≡ left.store
 
@@ -244,9 +251,9 @@ module _ {H N U L R S : Type 0} (h : Hosts H N U L R) (l : Links L) (r : Sinks R
     pub told : Tells (serve_fault_number fault) status before.at.streams after.at.streams
 
   -- one of the two
-  abbrev pub ServesWork : Work → Configuration → With S H → With S H → ℕ → Type 0
-  ServesWork work config before after status =
-      IsServed work config before after status ⊎ IsNotServed config before after status
+  abbrev pub ServesWork : Option (List ℕ) → Work → Configuration → With S H → With S H → ℕ → Type 0
+  ServesWork store work config before after status =
+      IsServed store work config before after status ⊎ IsNotServed config before after status
 
 -- over a host
 module _ {H N U L R : Type 0} (h : Hosts H N U L R) where
@@ -278,7 +285,7 @@ module _ {H N U L R : Type 0} (h : Hosts H N U L R) (named : Ghosts N) (unnamed 
     pub works : is_some (named.fault store) ≡ false
     pub back : N
     pub left : H
-    pub serves : ServesWork h l r named work config
+    pub serves : ServesWork h l r named (Some path) work config
         (record { held = store; at = record before { host = opened } })
         (record { held = back; at = record after { host = left } }) status
     pub closed : h.closes left path back after.host
@@ -291,7 +298,7 @@ module _ {H N U L R : Type 0} (h : Hosts H N U L R) (named : Ghosts N) (unnamed 
     pub given : h.makes before.host (Ok store) made
     pub works : is_some (unnamed.fault store) ≡ false
     pub back : U
-    pub serves : ServesWork h l r unnamed work config
+    pub serves : ServesWork h l r unnamed None work config
         (record { held = store; at = record before { host = made } })
         (record { held = back; at = after }) status
 

@@ -1,5 +1,10 @@
+ghost use Rattle.std.specs.Prelude.{◌≡◌, ◌+◌, ◌++◌, ◌-◌, ◌^◌, OnOk, codes, min, string_bytes};
+ghost use Rattle.std.specs.List.{sum_by};
+ghost use Rattle.std.specs.Option.{option_copied};
+ghost use Rattle.kd_program.specs.Banner.{subnet_addresses, banner_text, amounts_text, grouped, latest_text, place_text, pool_size, removed_line, store_text, three_digits};
+
 use kd_commands::Listening;
-use kd_config::Subnet;
+use kd_config::{Pool, Subnet};
 use kd_names::put_signs;
 use kd_replay::put_address;
 use std::alloc::{AllocError, Global};
@@ -30,39 +35,55 @@ pub struct Sizes {
 }
 
 // Returns the number of addresses in the pools of these subnets.
-pub(crate) fn pool_addresses(subnets: &[Subnet]) -> u64 {
+pub(crate) fn pool_addresses(subnets: &[Subnet]) -> u64
+    ensures { result ≡ subnet_addresses subnets.now }
+{
     let mut sum: u64 = 0;
     for subnet in subnets {
-        for pool in subnet.pools.as_slice() {
-            let last = u64::from(pool.range.last);
-            let before = last.saturating_sub(u64::from(pool.range.first));
-            sum = sum.saturating_add(before.saturating_add(1));
-        }
+        sum = with_pools(sum, subnet.pools.as_slice());
     }
     sum
+}
+
+// Adds the number of addresses in these pools to a number.
+fn with_pools(sum: u64, pools: &[Pool]) -> u64
+    ensures { result ≡ min (sum + sum_by pool_size pools.now) (2 ^ 64 - 1) }
+{
+    let mut all = sum;
+    for pool in pools {
+        all = all.saturating_add(size_of_pool(pool));
+    }
+    all
+}
+
+// Returns the number of addresses of a pool.
+fn size_of_pool(pool: &Pool) -> u64
+    ensures { result ≡ pool_size pool.now }
+{
+    let first = u64::from(pool.range.first);
+    let last = u64::from(pool.range.last);
+    last.saturating_sub(first) + 1
 }
 
 // Prints the line
 // `serving ADDRESS:PORT, subnets N, addresses N, leases N, latest change MOMENT, store PATH`, with
 // its line feed. If there are no leases, the latest change is a dash.
+#[tactic(auto, unfolding(crate::specs::Banner::banner_text))]
 pub(crate) fn put_banner(
     alloc: Global,
     line: &mut String,
     banner: &Banner<'_>,
-) -> Result<(), AllocError> {
+) -> Result<(), AllocError>
+    ensures { OnOk result (string_bytes line.new ≡ string_bytes line.old
+        ++ banner_text banner.now.listening banner.now.sizes banner.now.leases banner.now.latest
+        banner.now.store.now) }
+{
     line.push_str("serving ")?;
     put_place(line, banner.listening.bind, banner.listening.port)?;
-    line.push_str(", subnets ")?;
-    put_grouped(line, banner.sizes.subnets as u64)?;
-    line.push_str(", addresses ")?;
-    put_grouped(line, banner.sizes.addresses)?;
-    line.push_str(", leases ")?;
-    put_grouped(line, banner.leases as u64)?;
+    put_counts(line, banner)?;
     line.push_str(", latest change ")?;
     put_latest(line, banner)?;
-    line.push_str(", store ")?;
-    put_signs(alloc, line, banner.store.as_bytes())?;
-    line.push_str("\n")
+    put_store(alloc, line, banner.store)
 }
 
 // Prints a line that says how many bytes were removed from the record at a path, if any were.
@@ -71,7 +92,10 @@ pub(crate) fn put_removed(
     line: &mut String,
     path: Option<&str>,
     removed: u64,
-) -> Result<(), AllocError> {
+) -> Result<(), AllocError>
+    ensures { OnOk result (string_bytes line.new
+        ≡ string_bytes line.old ++ removed_line (option_copied path.entry) removed) }
+{
     let Some(path) = path else {
         return Ok(());
     };
@@ -87,13 +111,35 @@ pub(crate) fn put_removed(
 }
 
 // Prints an address, a number in host order, and a port.
-fn put_place(line: &mut String, address: u32, port: u16) -> Result<(), AllocError> {
+#[tactic(auto, unfolding(crate::specs::Banner::place_text))]
+pub(crate) fn put_place(line: &mut String, address: u32, port: u16) -> Result<(), AllocError>
+    ensures { OnOk result
+        (string_bytes line.new ≡ string_bytes line.old ++ place_text address port) }
+{
     put_address(line, address)?;
     write!(line, ":{port}")
 }
 
+// Prints how much the configuration contains, and the number of leases.
+#[tactic(auto, unfolding(crate::specs::Banner::amounts_text))]
+fn put_counts(line: &mut String, banner: &Banner<'_>) -> Result<(), AllocError>
+    ensures { OnOk result (string_bytes line.new
+        ≡ string_bytes line.old ++ amounts_text banner.now.sizes banner.now.leases) }
+{
+    line.push_str(", subnets ")?;
+    put_grouped(line, banner.sizes.subnets as u64)?;
+    line.push_str(", addresses ")?;
+    put_grouped(line, banner.sizes.addresses)?;
+    line.push_str(", leases ")?;
+    put_grouped(line, banner.leases as u64)
+}
+
 // Prints the time of the latest change, or a dash if there are no leases.
-fn put_latest(line: &mut String, banner: &Banner<'_>) -> Result<(), AllocError> {
+#[tactic(auto, unfolding(crate::specs::Banner::latest_text))]
+fn put_latest(line: &mut String, banner: &Banner<'_>) -> Result<(), AllocError>
+    ensures { OnOk result (string_bytes line.new
+        ≡ string_bytes line.old ++ latest_text banner.now.leases banner.now.latest) }
+{
     if banner.leases == 0 {
         return line.push_str("-");
     }
@@ -101,28 +147,35 @@ fn put_latest(line: &mut String, banner: &Banner<'_>) -> Result<(), AllocError> 
     write!(line, "{latest}")
 }
 
-// The weights of a number's groups of three digits.
-const GROUPS: [u64; 7] = [
-    1_000_000_000_000_000_000,
-    1_000_000_000_000_000,
-    1_000_000_000_000,
-    1_000_000_000,
-    1_000_000,
-    1_000,
-    1,
-];
+// Prints the path of the store, and the line feed.
+#[tactic(auto, unfolding(crate::specs::Banner::store_text))]
+fn put_store(alloc: Global, line: &mut String, store: &str) -> Result<(), AllocError>
+    ensures { OnOk result (string_bytes line.new ≡ string_bytes line.old ++ store_text store.now) }
+{
+    line.push_str(", store ")?;
+    put_signs(alloc, line, store.as_bytes())?;
+    line.push_str("\n")
+}
 
 // Prints a number with commas between its groups of three digits.
-fn put_grouped(line: &mut String, number: u64) -> Result<(), AllocError> {
-    let mut begun = false;
-    for weight in GROUPS {
-        let group = number / weight % 1_000;
-        if begun {
-            write!(line, ",{group:03}")?;
-        } else if group > 0 || weight == 1 {
-            write!(line, "{group}")?;
-            begun = true;
-        }
+#[tactic(auto, using(crate::proofs::Grouped::one_group))]
+fn put_grouped(line: &mut String, number: u64) -> Result<(), AllocError>
+    ensures { OnOk result (string_bytes line.new ≡ string_bytes line.old ++ grouped number) }
+{
+    if number < 1_000 {
+        return write!(line, "{number}");
     }
-    Ok(())
+    put_grouped(line, number / 1_000)?;
+    put_group(line, number % 1_000)
+}
+
+// Prints a comma and the three digits of a number below a thousand.
+fn put_group(line: &mut String, number: u64) -> Result<(), AllocError>
+    ensures { OnOk result (string_bytes line.new
+        ≡ string_bytes line.old ++ (codes "," ++ three_digits number)) }
+{
+    let hundreds = number / 100;
+    let tens = number / 10 % 10;
+    let ones = number % 10;
+    write!(line, ",{hundreds}{tens}{ones}")
 }

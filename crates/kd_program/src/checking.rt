@@ -1,6 +1,5 @@
 ghost use Rattle.std.specs.Prelude.{◌≡◌, ◌∷◌, [], option_map, string_bytes};
-ghost use Rattle.kd_program.specs.Checking.{ChecksStart, FindsRows, FindsStore, check_status, config_finding, socket_finding};
-ghost use Rattle.kd_program.specs.Staging.{finding_number};
+ghost use Rattle.kd_program.specs.Checking.{ChecksStart, FindsRows, FindsStore, check_status, config_finding, finding_number, socket_finding};
 ghost use Rattle.kd_program.specs.Streams.{at_ends};
 
 use crate::ends::StandardEnds;
@@ -106,7 +105,7 @@ pub(crate) fn check<H: Host, R: Source, O: Sink, E: Sink>(
 // Tries the store at a path, if there is one.
 fn find_store<H: Host>(host: &mut H, path: &Option<String>, limit: Option<u64>) -> StoreFinding
     ensures { FindsStore H.Host (option_map string_bytes path.now) limit host.old host.new
-        (finding_number result) }
+        result }
 {
     let Some(path) = path else {
         return StoreFinding::Unasked;
@@ -121,7 +120,7 @@ fn find_store<H: Host>(host: &mut H, path: &Option<String>, limit: Option<u64>) 
 
 // Reads the rows of the database at a path, and asks the clock.
 fn find_rows<H: Host>(host: &mut H, path: &str, limit: Option<u64>) -> StoreFinding
-    ensures { FindsRows H.Host path.now limit host.old host.new (finding_number result) }
+    ensures { FindsRows H.Host path.now limit host.old host.new result }
 {
     match host.copy(path) {
         Ok(rows) => match Rows::new(rows) {

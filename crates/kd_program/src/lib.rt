@@ -12,7 +12,6 @@ mod ends;
 mod explaining;
 mod host;
 mod importing;
-pub mod laws;
 mod listing;
 mod log;
 mod looking;

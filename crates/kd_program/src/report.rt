@@ -1,5 +1,8 @@
+ghost use Rattle.std.specs.Prelude.{◌≡◌, ◌++◌, IfOk, OnOk, codes, decimal, option_map, string_bytes};
+ghost use Rattle.kd_program.specs.Report.{IsPlain, IsCheckReport, ahead_text, behind_text, damaged_line, finding_text, log_line, seen_rows_text, seen_text, plain_byte, shown_text, socket_lines, socket_text, store_line, store_lines, unread_reason, unused_line};
+
 use crate::advice::put_advice;
-use crate::banner::pool_addresses;
+use crate::banner::{pool_addresses, put_place};
 use crate::checking::{Found, Place, SeenRows, StoreFinding};
 use crate::host::Host;
 use kd_check::findings::{SocketTrouble, StoreTrouble};
@@ -7,10 +10,9 @@ use kd_commands::Files;
 use kd_config::Config;
 use kd_io::{LookFault, StartFault};
 use kd_keeps::StoreFault;
-use kd_names::signs_of;
+use kd_names::{put_signs, signs_of};
 use std::alloc::{AllocError, Global};
 use std::fmt::Write;
-use std::net::Ipv4Addr;
 
 // Returns, in words, what the steps of a start found: a few lines.
 pub(crate) fn report_of<H: Host>(
@@ -18,30 +20,51 @@ pub(crate) fn report_of<H: Host>(
     host: &H,
     files: &Files,
     found: &Found<'_>,
-) -> Result<String, AllocError> {
+) -> Result<String, AllocError>
+    ensures { IfOk result (λ text. IsCheckReport (option_map string_bytes files.now.store)
+        found.now.store.now found.now.place found.now.socket (string_bytes text)) }
+{
     let mut text = String::new(alloc);
     put_config(alloc, &mut text, host, files, found.config)?;
-    if let Some(path) = &files.store {
-        let name = signs_of(alloc, path.as_bytes())?;
-        put_store(&mut text, name.as_str(), found.store)?;
-        put_log(&mut text, host, path.as_str(), name.as_str(), found.store)?;
-    }
+    let left_out = left_out_of(host, files);
+    put_store_lines(alloc, &mut text, &files.store, found.store, left_out)?;
     put_socket(&mut text, found.place, found.socket)?;
     lines_shown(alloc, text.as_bytes())
 }
 
+// Asks the host how many bytes of the store's log a start leaves out, if there is a path.
+fn left_out_of<H: Host>(host: &H, files: &Files) -> Option<usize> {
+    match &files.store {
+        Some(path) => host.left_out(path.as_str()),
+        None => None,
+    }
+}
+
 // Returns lines as a terminal may show them: what is no line feed and outside 0x20 to 0x7e, as the
 // name of a class may be, as `\x` and two hexadecimal digits.
-fn lines_shown(alloc: Global, text: &[u8]) -> Result<String, AllocError> {
+#[tactic(auto, using(crate::proofs::Reported::both_plain))]
+fn lines_shown(alloc: Global, text: &[u8]) -> Result<String, AllocError>
+    ensures exact { IfOk result (λ shown. string_bytes shown ≡ shown_text text.now) }
+    ensures plain { IfOk result (λ shown. IsPlain (string_bytes shown)) }
+{
     let mut shown = String::new(alloc);
     for byte in text {
-        if *byte == b'\n' || (b' ' <= *byte && *byte <= b'~') {
-            shown.push(char::from(*byte))?;
-        } else {
-            write!(shown, "\\x{byte:02x}")?;
-        }
+        put_shown(alloc, &mut shown, *byte)?;
     }
     Ok(shown)
+}
+
+// Prints a byte as a terminal may show it.
+#[tactic(auto, unfolding(crate::specs::Report::plain_byte))]
+fn put_shown(alloc: Global, shown: &mut String, byte: u8) -> Result<(), AllocError>
+    ensures exact { OnOk result
+        (string_bytes shown.new ≡ string_bytes shown.old ++ plain_byte byte) }
+    ensures plain { IsPlain (plain_byte byte) }
+{
+    if byte == b'\n' || (b' ' <= byte && byte <= b'~') {
+        return shown.push(char::from(byte));
+    }
+    put_signs(alloc, shown, &[byte])
 }
 
 // Prints what was found out about a configuration.
@@ -77,93 +100,190 @@ fn text_of(path: &Option<String>) -> Option<&str> {
     }
 }
 
+// Prints what was found out about the store at a path and its log, if there is a path.
+#[tactic(auto, unfolding(crate::specs::Report::store_lines))]
+fn put_store_lines(
+    alloc: Global,
+    text: &mut String,
+    path: &Option<String>,
+    store: &StoreFinding,
+    left_out: Option<usize>,
+) -> Result<(), AllocError>
+    ensures { OnOk result (string_bytes text.new ≡ string_bytes text.old
+        ++ store_lines (option_map string_bytes path.now) store.now left_out) }
+{
+    match path {
+        Some(path) => {
+            let name = signs_of(alloc, path.as_bytes())?;
+            put_store(text, name.as_str(), store)?;
+            put_log(text, name.as_str(), store, left_out)
+        }
+        None => Ok(()),
+    }
+}
+
 // Prints what was found out about a store.
-fn put_store(text: &mut String, name: &str, store: &StoreFinding) -> Result<(), AllocError> {
+#[tactic(auto, unfolding(crate::specs::Report::store_line))]
+fn put_store(text: &mut String, name: &str, store: &StoreFinding) -> Result<(), AllocError>
+    ensures { OnOk result
+        (string_bytes text.new ≡ string_bytes text.old ++ store_line name.now store.now) }
+{
     text.push_str(name)?;
+    put_finding(text, store)?;
+    text.push_str("\n")
+}
+
+// Prints what was found out about a store, without its name.
+#[tactic(auto, unfolding(crate::specs::Report::finding_text))]
+fn put_finding(text: &mut String, store: &StoreFinding) -> Result<(), AllocError>
+    ensures { OnOk result (string_bytes text.new ≡ string_bytes text.old ++ finding_text store.now) }
+{
     match store {
-        StoreFinding::Unasked => {}
+        StoreFinding::Unasked => Ok(()),
         StoreFinding::New => text.push_str(
             ": not there yet, serve makes it if this account may write in its folder",
-        )?,
-        StoreFinding::Trouble(trouble) => {
-            text.push_str(": ")?;
-            text.push_str(trouble.words())?;
-        }
-        StoreFinding::Unread(LookFault::Store(StoreFault::Schema)) => {
-            text.push_str(": ")?;
-            text.push_str(StoreTrouble::Schema.words())?;
-        }
-        StoreFinding::Unread(LookFault::Store(StoreFault::Sql(_))) => {
-            text.push_str(": it is no database, or damaged")?;
-        }
-        StoreFinding::Unread(LookFault::Input(_)) => {
-            text.push_str(": its files can't be read")?;
-        }
-        StoreFinding::Unread(LookFault::NoTable) => {
-            text.push_str(": no table of leases yet, serve makes it")?;
-        }
-        StoreFinding::Unread(LookFault::Unsettled) => {
-            text.push_str(": it was changed at each try, try again")?;
-        }
-        StoreFinding::Memory => text.push_str(": out of memory")?,
-        StoreFinding::Open(seen) => put_seen(text, *seen)?,
+        ),
+        StoreFinding::Trouble(trouble) => put_words(text, trouble.words()),
+        StoreFinding::Unread(fault) => put_words(text, words_of_unread(*fault)),
+        StoreFinding::Memory => text.push_str(": out of memory"),
+        StoreFinding::Open(seen) => put_seen(text, *seen),
     }
-    text.push_str("\n")
+}
+
+// Prints words after a name.
+fn put_words(text: &mut String, words: &str) -> Result<(), AllocError>
+    ensures { OnOk result
+        (string_bytes text.new ≡ string_bytes text.old ++ (codes ": " ++ words.now)) }
+{
+    text.push_str(": ")?;
+    text.push_str(words)
+}
+
+// Returns, in words, why the rows of a database are not read.
+fn words_of_unread(fault: LookFault) -> &'static str
+    ensures { result.now ≡ unread_reason fault }
+{
+    match fault {
+        LookFault::Input(_) => "its files can't be read",
+        LookFault::Unsettled => "it was changed at each try, try again",
+        LookFault::NoTable => "no table of leases yet, serve makes it",
+        LookFault::Store(StoreFault::Schema) => StoreTrouble::Schema.words(),
+        LookFault::Store(StoreFault::Sql(_)) => "it is no database, or damaged",
+    }
 }
 
 // Prints what was found out about the log of a database that was read, if a server leaves some of it
 // out.
-fn put_log<H: Host>(
+fn put_log(
     text: &mut String,
-    host: &H,
-    path: &str,
     name: &str,
     store: &StoreFinding,
-) -> Result<(), AllocError> {
-    match (store, host.left_out(path)) {
-        (StoreFinding::Open(_), Some(bytes)) => writeln!(
-            text,
-            "{name}-wal: damaged, serve leaves out the {bytes} bytes behind its last good commit"
-        ),
-        (StoreFinding::Unread(LookFault::NoTable), Some(bytes)) => writeln!(
-            text,
-            "{name}-wal: serve leaves out {bytes} bytes of it"
-        ),
+    left_out: Option<usize>,
+) -> Result<(), AllocError>
+    ensures { OnOk result
+        (string_bytes text.new ≡ string_bytes text.old ++ log_line name.now store.now left_out) }
+{
+    match (store, left_out) {
+        (StoreFinding::Open(_), Some(bytes)) => put_damaged(text, name, bytes),
+        (StoreFinding::Unread(LookFault::NoTable), Some(bytes)) => put_unused(text, name, bytes),
         _ => Ok(()),
     }
 }
 
+// Prints the line about a damaged log.
+#[tactic(auto, unfolding(crate::specs::Report::damaged_line))]
+fn put_damaged(text: &mut String, name: &str, bytes: usize) -> Result<(), AllocError>
+    ensures { OnOk result
+        (string_bytes text.new ≡ string_bytes text.old ++ damaged_line name.now bytes) }
+{
+    text.push_str(name)?;
+    text.push_str("-wal: damaged, serve leaves out the ")?;
+    write!(text, "{bytes}")?;
+    text.push_str(" bytes behind its last good commit\n")
+}
+
+// Prints the line about a log without a table.
+#[tactic(auto, unfolding(crate::specs::Report::unused_line))]
+fn put_unused(text: &mut String, name: &str, bytes: usize) -> Result<(), AllocError>
+    ensures { OnOk result
+        (string_bytes text.new ≡ string_bytes text.old ++ unused_line name.now bytes) }
+{
+    text.push_str(name)?;
+    write!(text, "-wal: serve leaves out {bytes} bytes of it\n")
+}
+
 // Prints what was found out about the rows of a store.
-fn put_seen(text: &mut String, seen: SeenRows) -> Result<(), AllocError> {
+fn put_seen(text: &mut String, seen: SeenRows) -> Result<(), AllocError>
+    ensures { OnOk result (string_bytes text.new ≡ string_bytes text.old ++ seen_text seen) }
+{
+    if seen.count == 0 {
+        text.push_str(": leases 0, latest change -")
+    } else {
+        put_rows(text, seen)
+    }
+}
+
+// Prints what was found out about some rows.
+#[tactic(auto, unfolding(crate::specs::Report::seen_rows_text))]
+fn put_rows(text: &mut String, seen: SeenRows) -> Result<(), AllocError>
+    ensures { OnOk result (string_bytes text.new ≡ string_bytes text.old ++ seen_rows_text seen) }
+{
     let SeenRows {
         count,
         latest,
         moment,
-        ..
+        is_behind,
     } = seen;
-    if count == 0 {
-        return text.push_str(": leases 0, latest change -");
+    text.push_str(": leases ")?;
+    write!(text, "{count}")?;
+    text.push_str(", latest change ")?;
+    write!(text, "{latest}")?;
+    put_ahead(text, latest, moment)?;
+    put_behind(text, is_behind)
+}
+
+// Prints how far a time is ahead of the clock, if it is.
+#[tactic(auto, unfolding(crate::specs::Report::ahead_text))]
+fn put_ahead(text: &mut String, latest: u64, moment: u64) -> Result<(), AllocError>
+    ensures { OnOk result
+        (string_bytes text.new ≡ string_bytes text.old ++ ahead_text latest moment) }
+{
+    if latest <= moment {
+        return Ok(());
     }
-    write!(text, ": leases {count}, latest change {latest}")?;
-    if latest > moment {
-        let by = latest - moment;
-        write!(text, ", which is {by} seconds ahead of the clock")?;
-    }
-    if seen.is_behind {
-        text.push_str(", more than --max-ahead")?;
+    let by = latest - moment;
+    write!(text, ", which is {by} seconds ahead of the clock")
+}
+
+// Prints whether the clock is too far behind.
+fn put_behind(text: &mut String, is_behind: bool) -> Result<(), AllocError>
+    ensures { OnOk result (string_bytes text.new ≡ string_bytes text.old ++ behind_text is_behind) }
+{
+    if is_behind {
+        return text.push_str(", more than --max-ahead");
     }
     Ok(())
 }
 
 // Prints what was found out about a socket.
+#[tactic(auto, unfolding(crate::specs::Report::socket_lines))]
 fn put_socket(
     text: &mut String,
     place: Place,
     socket: Result<bool, SocketTrouble>,
-) -> Result<(), AllocError> {
-    let address = Ipv4Addr::from(place.address);
-    let port = place.port;
-    write!(text, "{address}:{port}: ")?;
+) -> Result<(), AllocError>
+    ensures { OnOk result
+        (string_bytes text.new ≡ string_bytes text.old ++ socket_lines place socket) }
+{
+    put_place(text, place.address, place.port)?;
+    text.push_str(": ")?;
+    put_answer(text, socket)
+}
+
+// Prints whether a socket is free, or why it cannot be opened.
+fn put_answer(text: &mut String, socket: Result<bool, SocketTrouble>) -> Result<(), AllocError>
+    ensures { OnOk result (string_bytes text.new ≡ string_bytes text.old ++ socket_text socket) }
+{
     match socket {
         Ok(true) => text.push_str("free\n"),
         Ok(false) => text.push_str(

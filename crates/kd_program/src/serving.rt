@@ -1,4 +1,4 @@
-ghost use Rattle.std.specs.Prelude.{◌≡◌, ◌<◌, Err, IfOk, IsTrue, MatchResult, Ok, false, is_some, option_map, string_bytes};
+ghost use Rattle.std.specs.Prelude.{◌≡◌, ◌++◌, ◌<◌, Err, IfOk, IsTrue, MatchResult, Ok, false, is_some, option_map, string_bytes};
 ghost use Rattle.std.specs.Option.{option_copied};
 ghost use Rattle.kd_print.specs.Status.{status_of};
 ghost use Rattle.kd_io.specs.Faults.{start_fault_number};
@@ -6,6 +6,7 @@ ghost use Rattle.kd_keeps.specs.Fault.{store_fault_number};
 ghost use Rattle.kd_keeps.specs.Reading.{AreRead};
 ghost use Rattle.kd_program.specs.Streams.{TellsWith, at_ends, streams, written_to};
 ghost use Rattle.kd_replay.specs.Serving.{failed_in};
+ghost use Rattle.kd_program.specs.Banner.{removed_line, serving_line};
 ghost use Rattle.kd_program.specs.Running.{GivesJournal, IsStoreFor, IsStoreFound, Listens, ReplaysInput, ServesWork, Starts, Works, ports_asked};
 
 use crate::banner::{Banner, Sizes, pool_addresses, put_banner, put_removed};
@@ -50,6 +51,13 @@ pub enum Work {
     Serve(Service),
 }
 
+// What a command uses: its files, and the path of its store, unless that is in memory.
+#[derive(Clone, Copy)]
+struct Used<'a> {
+    files: &'a Files,
+    store: Option<&'a str>,
+}
+
 // Returns how many datagrams may share one commit: 32 if a commit takes time, so that waiting
 // datagrams need not wait for one commit each; otherwise 1. It is also 1 if replies go to the
 // sender, which is known only for the last datagram.
@@ -81,19 +89,19 @@ pub(crate) fn start_server<H: Host, R: Source, O: Sink, E: Sink>(
         Ok(config) => config,
         Err(fault) => return refuse_start(alloc, &mut ends.faults, &fault),
     };
-    match store_for(host, files, work) {
+    let store = store_for(host, files, work);
+    let used = Used { files, store };
+    match store {
         Some(path) => match host.named_store(path) {
             Ok(opened) => {
-                let (status, store) = run_over_store(
-                    alloc, host, ends, config, opened, files, work,
-                );
+                let (status, store) = run_over_store(alloc, host, ends, config, opened, used, work);
                 host.close(path, store);
                 status
             }
             Err(fault) => refuse_store(alloc, &mut ends.faults, &fault),
         },
         None => match host.unnamed_store() {
-            Ok(opened) => run_over_store(alloc, host, ends, config, opened, files, work).0,
+            Ok(opened) => run_over_store(alloc, host, ends, config, opened, used, work).0,
             Err(fault) => refuse_store(alloc, &mut ends.faults, &fault),
         },
     }
@@ -167,7 +175,7 @@ fn run_over_store<H: Host, R: Source, O: Sink, E: Sink, S: Keeps>(
     ends: &mut StandardEnds<R, O, E>,
     config: Config,
     opened: Opened<S>,
-    files: &Files,
+    used: Used<'_>,
     work: &Work,
 ) -> (u8, S)
     requires store { is_some (S.fault opened.store) ≡ false }
@@ -175,7 +183,7 @@ fn run_over_store<H: Host, R: Source, O: Sink, E: Sink, S: Keeps>(
     requires input { R.has_failed ends.old.input ≡ false }
     requires output { O.has_failed ends.old.output ≡ false }
     ensures { ServesWork H.Host H.Socket.Link H.Journal.Sink S.Keeps
-        work.now config
+        (option_copied used.entry.store) work.now config
         (record { held = opened.store; at = at_ends R.Source O.Sink E.Sink host.old ends.old })
         (record { held = result.1; at = at_ends R.Source O.Sink E.Sink host.new ends.new })
         result.0 }
@@ -187,7 +195,7 @@ fn run_over_store<H: Host, R: Source, O: Sink, E: Sink, S: Keeps>(
             return (status, store);
         }
     };
-    let status = do_work(alloc, host, ends, &mut server, work, files);
+    let status = do_work(alloc, host, ends, &mut server, work, used);
     let (_, store) = server.close();
     (status, store)
 }
@@ -199,12 +207,12 @@ fn do_work<H: Host, R: Source, O: Sink, E: Sink, S: Keeps>(
     ends: &mut StandardEnds<R, O, E>,
     server: &mut Server<S>,
     work: &Work,
-    files: &Files,
+    used: Used<'_>,
 ) -> u8
     requires input { R.has_failed ends.old.input ≡ false }
     requires output { O.has_failed ends.old.output ≡ false }
     ensures { Works H.Host H.Socket.Link H.Journal.Sink S.Keeps
-        work.now
+        (option_copied used.entry.store) work.now
         (record { held = server.old; at = at_ends R.Source O.Sink E.Sink host.old ends.old })
         (record { held = server.new; at = at_ends R.Source O.Sink E.Sink host.new ends.new })
         result }
@@ -213,7 +221,7 @@ fn do_work<H: Host, R: Source, O: Sink, E: Sink, S: Keeps>(
         Work::Replay => replay_input(alloc, ends, server),
         Work::Explain(number) => explain_line(alloc, ends, &table_of(server), *number),
         Work::Show(view) => print_view(alloc, ends, view, &table_of(server)),
-        Work::Serve(service) => serve_link(alloc, host, ends, server, service, files),
+        Work::Serve(service) => serve_link(alloc, host, ends, server, service, used),
     }
 }
 
@@ -271,11 +279,11 @@ fn serve_link<H: Host, R: Source, O: Sink, E: Sink, S: Keeps>(
     ends: &mut StandardEnds<R, O, E>,
     server: &mut Server<S>,
     service: &Service,
-    files: &Files,
+    used: Used<'_>,
 ) -> u8
     requires output { O.has_failed ends.old.output ≡ false }
     ensures { Listens H.Host H.Socket.Link H.Journal.Sink S.Keeps
-        service.now
+        (option_copied used.entry.store) service.now
         (record { held = server.old; at = at_ends R.Source O.Sink E.Sink host.old ends.old })
         (record { held = server.new; at = at_ends R.Source O.Sink E.Sink host.new ends.new })
         result }
@@ -284,16 +292,16 @@ fn serve_link<H: Host, R: Source, O: Sink, E: Sink, S: Keeps>(
         let fault = LoopFault::Read;
         return refuse(alloc, &mut ends.faults, fault.number(), &fault);
     };
-    let Ok(mut record) = journal_of(host, &service.journal, files) else {
+    let Ok(mut record) = journal_of(host, &service.journal, used.files) else {
         let fault = LoopFault::Record;
         return refuse(alloc, &mut ends.faults, fault.number(), &fault);
     };
-    let Ok(lines) = first_lines(alloc, server, service, files, record.removed) else {
+    let Ok(lines) = first_lines(alloc, server, service, used.store, record.removed) else {
         return refuse_memory(&mut ends.faults);
     };
     tell(&mut ends.faults, lines.as_bytes());
     let limits = Limits {
-        most: batch_size(files.store.is_some(), service.listening.mirror),
+        most: batch_size(used.store.is_some(), service.listening.mirror),
         count: service.count,
         max_ahead: service.max_ahead,
     };
@@ -322,9 +330,14 @@ fn first_lines<S: Keeps>(
     alloc: Global,
     server: &Server<S>,
     service: &Service,
-    files: &Files,
+    store: Option<&str>,
     removed: u64,
-) -> Result<String, AllocError> {
+) -> Result<String, AllocError>
+    ensures { IfOk result (λ lines. string_bytes lines
+        ≡ removed_line (option_map string_bytes service.now.journal) removed
+        ++ serving_line service.now.listening server.now.config server.now.rows
+        (option_copied store.entry)) }
+{
     let subnets = server.config().subnets();
     let sizes = Sizes {
         subnets: subnets.len(),
@@ -335,7 +348,7 @@ fn first_lines<S: Keeps>(
         sizes,
         leases: server.row_count(),
         latest: server.latest_change(),
-        store: text_of(&files.store).unwrap_or("memory"),
+        store: store.unwrap_or("memory"),
     };
     let mut lines = String::new(alloc);
     put_removed(alloc, &mut lines, text_of(&service.journal), removed)?;

@@ -1,13 +1,5 @@
-pub mod Across
 pub mod Batches
 pub mod Headed
-pub mod LiveLeases
-pub mod Lives
-pub mod LogLines
-pub mod OneStep
-pub mod Overlap
-pub mod Recorded
-pub mod Ruled
 pub mod Staged
 pub mod Stopping
 pub mod Taken

@@ -2,6 +2,7 @@
 -- an event: it answers and changes its rows as the history says, and the store keeps those rows.
 use Rattle.std.specs.Prelude.{◌≡◌, ◌≢◌, ◌⊎◌, ℕ, ◌^◌, ◌≤◌, ◌<◌, true, false, List, Ok, Option, None, Some, is_some}
 use Rattle.kd_config.specs.Configuration.{Configuration}
+use Rattle.kd_config.specs.Sound.{IsSound}
 use Rattle.kd_event.specs.declared.event.Event.{Event}
 use Rattle.kd_event.specs.declared.event.Handled.{Handled}
 use Rattle.kd_event.specs.declared.ports.Ports.{Ports}
@@ -104,10 +105,11 @@ module _ {S : Type 0} (g : Ghosts S) where
   Refuses old event (faults.Store fault) new = IsStopped fault old event new
   Refuses old event faults.Failed new = (is_some (g.fault old.store) ≡ true) × (new ≡ old)
 
-  -- a server that was opened over a store: if the store stood at a table, the server's rows are
-  -- that table, and the store holds them
+  -- a server that was opened over a store: its configuration obeys all limits, and if the store
+  -- stood at a table, the server's rows are that table, and the store holds them
   pub record Opens (ports : Ports) (config : Configuration) (store : S)
       (server : Keeping S) : Type 0 where
+    pub sound : IsSound config
     pub ports_are : server.ports ≡ ports
     pub config_is : server.config ≡ config
     pub works : is_some (g.fault server.store) ≡ false

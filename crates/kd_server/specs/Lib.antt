@@ -1,10 +1,6 @@
 pub mod Batch
 pub mod Keeping
 pub mod Leases
-pub mod Lives
-pub mod NoOverlap
-pub mod OneStep
-pub mod Recorded
 pub mod Staging
 pub mod Step
 pub mod Trial

@@ -2,13 +2,11 @@
 //!
 //! What this layer promises to the one above: the server answers an event as the history of events
 //! says, by the rules of `kd_lease`, over its configuration and its rows, and its store keeps those
-//! rows (`specs/Keeping.antt`). `run` and `replay` are those of `kd_replay`, over this server.
-//! While an address is leased to a client, no history gives it to another, whatever its
-//! configurations (`specs/NoOverlap.antt`, `laws::no_overlap_across`).
+//! rows (`specs/Keeping.antt`). `run` and `replay` are those of `kd_replay`, over this server. What
+//! follows for histories of events is in `kd_laws`.
 #![tactic(auto)]
 
 mod batching;
-pub mod laws;
 mod leases;
 mod server;
 mod trial;

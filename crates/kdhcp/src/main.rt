@@ -4,7 +4,7 @@
 mod version;
 
 use kd_commands::LineFault;
-use kd_host::{carry_out, refuse};
+use kd_host::{Input, Machine, Output, StandardEnds, inherited_socket, refuse, run_on};
 use sqlite::Unknown;
 use std::io;
 use std::process::ExitCode;
@@ -12,10 +12,24 @@ use version::version_line;
 
 fn main(rt: HostRuntime) -> ExitCode {
     let status = match begin(&rt) {
-        Ok((words, version)) => carry_out(&rt, version.as_str(), Unknown, &words),
+        Ok((words, version)) => carry_out(&rt, version.as_str(), &words),
         Err(fault) => refuse(&rt, fault),
     };
     ExitCode::from(status)
+}
+
+// Carries out the arguments after the program's name over this machine and its standard streams, and
+// returns the exit status. A socket that was handed to the process is used by `serve`.
+fn carry_out(rt: &HostRuntime, version: &str, words: &[String]) -> u8 {
+    let handed = inherited_socket(rt);
+    let stderr = rt.stderr();
+    let mut machine = Machine::of(rt, version, Unknown, handed);
+    let mut ends = StandardEnds {
+        input: Input::over(rt.reader()),
+        output: Output::over(io::writer(rt)),
+        faults: Output::over(io::writer(&stderr)),
+    };
+    run_on(&mut machine, words, &mut ends)
 }
 
 // Returns the arguments after the program's name, and the line that says its version.

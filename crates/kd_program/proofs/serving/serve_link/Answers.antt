@@ -1,5 +1,5 @@
-use Rattle.std.proofs.Common.{Ok, Err, refl, inl, inr}
-use Rattle.kd_program.specs.Streams.{written_to}
+use Rattle.std.proofs.Common.{Ok, Err, ◌∙◌, refl, inl, inr, subst}
+use Rattle.kd_program.specs.Streams.{Puts, written_to}
 use Rattle.kd_program.proofs.Told.{told_as, told_own}
 use Rattle.kd_program.proofs.serving.serve_link.Goals as goal
 
@@ -12,9 +12,11 @@ returns-in-Ok-serve g c = inl (record {
   journal = c.in-Ok-journal_of.record.sink;
   records = c.in-Ok-journal_of.ensures.given;
   record_works = c.in-Ok-journal_of.ensures.works;
-  line = c.as_bytes.result.now;
+  removed = c.in-Ok-journal_of.record.removed;
   between = written_to g.E.Sink c.tell.new.faults;
-  told = c.tell.ensures;
+  line = subst
+      (λ text. Puts text (written_to g.E.Sink c.args.ends.now.faults) (written_to g.E.Sink c.tell.new.faults))
+      (c.as_bytes.ensures.value ∙ c.in-Ok-first_lines.ensures) c.tell.ensures;
   rest = c.serve.new.link;
   recorded = c.serve.new.journal;
   receives = record {
@@ -36,9 +38,11 @@ returns g c = inl (record {
   journal = c.in-Ok-journal_of.record.sink;
   records = c.in-Ok-journal_of.ensures.given;
   record_works = c.in-Ok-journal_of.ensures.works;
-  line = c.as_bytes.result.now;
+  removed = c.in-Ok-journal_of.record.removed;
   between = written_to g.E.Sink c.tell.new.faults;
-  told = c.tell.ensures;
+  line = subst
+      (λ text. Puts text (written_to g.E.Sink c.args.ends.now.faults) (written_to g.E.Sink c.tell.new.faults))
+      (c.as_bytes.ensures.value ∙ c.in-Ok-first_lines.ensures) c.tell.ensures;
   rest = c.serve.new.link;
   recorded = c.serve.new.journal;
   receives = record {

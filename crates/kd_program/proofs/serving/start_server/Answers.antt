@@ -9,8 +9,8 @@ returns-in-Err-named_store g c = inl (record {
   config = c.in-Ok.config;
   asked = c.read_configuration.new.host;
   given = c.in-Ok.ensures;
-  store = option_copied c.store_for.result;
-  is_for = c.store_for.ensures;
+  store = option_copied c.store_for-store.result;
+  is_for = c.store_for-store.ensures;
   works = subst
       (λ path. WorksOver g.H.Host g.H.Named.Keeps g.H.Unnamed.Keeps g.H.Socket.Link g.H.Journal.Sink
       (option_copied path) c.args.work.now c.in-Ok.config
@@ -34,8 +34,8 @@ returns-in-Err-unnamed_store g c = inl (record {
   config = c.in-Ok.config;
   asked = c.read_configuration.new.host;
   given = c.in-Ok.ensures;
-  store = option_copied c.store_for.result;
-  is_for = c.store_for.ensures;
+  store = option_copied c.store_for-store.result;
+  is_for = c.store_for-store.ensures;
   works = subst
       (λ path. WorksOver g.H.Host g.H.Named.Keeps g.H.Unnamed.Keeps g.H.Socket.Link g.H.Journal.Sink
       (option_copied path) c.args.work.now c.in-Ok.config

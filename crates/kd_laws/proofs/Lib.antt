@@ -1,0 +1,17 @@
+pub mod Across
+pub mod Assigned
+pub mod CallsMade
+pub mod Joined
+pub mod LeasesKept
+pub mod LiveLeases
+pub mod LogLines
+pub mod OneStep
+pub mod Opened
+pub mod Ordered
+pub mod Recorded
+pub mod Replied
+pub mod ReplySteps
+pub mod Reported
+pub mod Rereads
+pub mod Ruled
+pub mod Told

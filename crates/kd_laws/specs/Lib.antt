@@ -1,0 +1,9 @@
+pub mod AcrossRuns
+pub mod Calls
+pub mod Lives
+pub mod NoOverlap
+pub mod OneStep
+pub mod Openings
+pub mod Recorded
+pub mod Replies
+pub mod Sent

@@ -1,0 +1,105 @@
+-- No address is for two clients at once, in the words of what comes and of what is sent (RFC 2131
+-- sections 1.6 and 4.3.1): an ACK of an address to one client is followed by no OFFER or ACK of it to
+-- another before the end that the first was told, over all runs of a server, one after another.
+use Rattle.std.specs.Prelude.{◌≡◌, ◌≢◌, ◌⊎◌, ℕ, ◌+◌, ◌^◌, ◌<◌, ◌≤◌, List, ◌∷◌, ◌++◌, Ok, Some}
+use Rattle.std.specs.List.{flat_map}
+use Rattle.byteorder.specs.Endian.{big_bytes}
+use Rattle.kd_config.specs.Configuration.{Configuration}
+use Rattle.kd_event.specs.declared.destination.Destination.{Destination}
+use Rattle.kd_event.specs.declared.event.Response.TheVariants as responses
+use Rattle.kd_event.specs.declared.ports.Ports.{Ports}
+use Rattle.kd_laws.specs.Lives.{IsStepOf, Life, Opening, Report, reports}
+use Rattle.kd_laws.specs.NoOverlap.{GivesUp, LeaseStep, Renews, end_of, lifetime_of}
+use Rattle.kd_lease.specs.Client.{client_identity, kind_of}
+use Rattle.kd_options.specs.Joined.{value_of}
+use Rattle.kd_options.specs.Kind.{type_number}
+use Rattle.kd_options.specs.Message.{AreBytes, Reads, Seen}
+use Rattle.kd_options.specs.declared.kind.MessageType.{MessageType}
+use Rattle.kd_options.specs.declared.kind.MessageType.TheVariants as types
+
+-- bytes give an address to a client for some seconds: they read as a message of this type, with the
+-- address in `yiaddr` and the seconds in option 51, for a client with this identity, by option 61,
+-- which a reply returns (RFC 6842), or by its hardware
+pub record Gives (type : MessageType) (bytes client : List ℕ) (a seconds : ℕ) : Type 0 where
+  pub message : Seen
+  pub reads : Reads bytes message
+  pub type_is : kind_of message ≡ type_number type
+  pub address : message.header.yiaddr ≡ a
+  pub for_client : client_identity message ≡ Some client
+  pub time : value_of 51 message.options ≡ Some (big_bytes 4 seconds)
+  pub range : seconds < 2 ^ 32
+
+-- a datagram was answered, at a time that the log has, with a reply that gives an address to a client
+pub record IsAnsweredBy (type : MessageType) (report : Report) (client : List ℕ)
+    (a seconds now : ℕ) : Type 0 where
+  pub datagram : AreBytes report.event.bytes
+  pub destination : Destination
+  pub reply : List ℕ
+  pub answer : report.answer
+      ≡ Ok (record { now = now; response = responses.Reply destination reply })
+  pub gives : Gives type reply client a seconds
+
+-- the events of openings, with what is known of each, in their order
+abbrev pub reports_of_all : List Opening → List Report
+reports_of_all life = flat_map (λ o. reports o.calls) life
+
+-- an address is leased to a client, by an ACK to a datagram, and a later datagram gets an OFFER or an
+-- ACK of it for another client; these are the events between the two
+pub record GivesTwice (life : List Opening) (client : List ℕ) (a seconds now later : ℕ)
+    (between : List Report) : Type 0 where
+  pub before : List Report
+  pub first : Report
+  pub second : Report
+  pub after : List Report
+  pub order : reports_of_all life ≡ before ++ first ∷ (between ++ second ∷ after)
+  pub leases : IsAnsweredBy types.Ack first client a seconds now
+  pub type : MessageType
+  pub offers : (type ≡ types.Offer) ⊎ (type ≡ types.Ack)
+  pub other : List ℕ
+  pub time : ℕ
+  pub gives : IsAnsweredBy type second other a time later
+  pub apart : other ≢ client
+
+-- one of these events is such an event
+pub record IsAmong (IsSuch : Report → Type 0) (list : List Report) : Type 0 where
+  pub front : List Report
+  pub report : Report
+  pub back : List Report
+  pub all : list ≡ front ++ report ∷ back
+  pub is : IsSuch report
+
+-- an event is a step, by some configuration and ports
+pub record IsSomeStep (report : Report) (e : LeaseStep) : Type 0 where
+  pub config : Configuration
+  pub ports : Ports
+  pub is : IsStepOf config ports report e
+
+-- the client gave up the address: its RELEASE or DECLINE changed the row of the address
+pub record IsGivenUp (client : List ℕ) (a : ℕ) (report : Report) : Type 0 where
+  pub step : LeaseStep
+  pub is : IsSomeStep report step
+  pub gives_up : GivesUp step client a
+
+-- the client asked for the address again under a lifetime of fewer seconds, and that lease has ended
+-- by this time
+pub record IsShortened (client : List ℕ) (a seconds moment : ℕ) (report : Report) : Type 0 where
+  pub step : LeaseStep
+  pub is : IsSomeStep report step
+  pub renews : Renews step client a
+  pub shorter : lifetime_of step < seconds
+  pub past : end_of step ≤ moment
+
+-- no two replies of openings overlap: if an ACK leased an address to a client for some seconds, and
+-- a later OFFER or ACK gives it to another, then these seconds have passed, in the server's time; or
+-- in between the client gave the address up, or asked for it again under a shorter lifetime, which
+-- has passed
+abbrev pub NeverOverlap : List Opening → Type 0
+NeverOverlap life =
+    (client : List ℕ) (a seconds now later : ℕ) (between : List Report)
+    → GivesTwice life client a seconds now later between
+    → (now + seconds ≤ later)
+    ⊎ (IsAmong (IsGivenUp client a) between ⊎ IsAmong (IsShortened client a seconds later) between)
+
+-- whatever came in the openings of a life, no two of its replies overlap
+abbrev pub NoReplyOverlaps : Type 0
+NoReplyOverlaps = (life : List Opening) → Life life → NeverOverlap life

@@ -1,0 +1,16 @@
+//! The laws: what holds of everything that the server and the program do, over histories and lives.
+//!
+//! Each law is the contract of a function that does nothing but name the laws it rests on. Nothing
+//! here runs, and the program does not depend on this crate. What the laws promise: no address is
+//! given to two clients at once (`overlap`, in the words of `specs/NoOverlap.antt`); whatever is
+//! done with a server, across stops and new configurations, is such a history (`lives`,
+//! `specs/Lives.antt`), and its calls are those of the traffic (`calls`, `specs/Calls.antt`); a replay repeats what was served (`replays`, `specs/Recorded.antt`); and the
+//! program's runs over files are such lives (`runs`, `specs/AcrossRuns.antt`).
+#![tactic(auto)]
+
+pub mod calls;
+pub mod lives;
+pub mod overlap;
+pub mod replays;
+pub mod runs;
+pub mod sent;

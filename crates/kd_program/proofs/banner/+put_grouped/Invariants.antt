@@ -1,0 +1,4 @@
+use Rattle.kd_program.proofs.banner.+put_grouped.Given as goal
+
+abbrev pub decreases-put_grouped : goal.decreases-put_grouped
+decreases-put_grouped l = l.number

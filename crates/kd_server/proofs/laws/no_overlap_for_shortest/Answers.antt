@@ -1,5 +1,0 @@
-use Rattle.kd_server.proofs.Across.{for_shortest}
-use Rattle.kd_server.proofs.laws.no_overlap_for_shortest.Goals as goal
-
-pub returns : goal.returns
-returns c = λ rows es history i j e f client a shortest least g. for_shortest c.no_overlap_across.ensures rows es history i j e f client a shortest least g

@@ -1,5 +1,0 @@
-use Rattle.kd_server.proofs.Across.{where_none_is_shorter}
-use Rattle.kd_server.proofs.laws.no_overlap_where_none_is_shorter.Goals as goal
-
-pub returns : goal.returns
-returns c = λ rows es history i j e f client a none g. where_none_is_shorter c.no_overlap_across.ensures rows es history i j e f client a none g

@@ -1,5 +1,0 @@
-use Rattle.kd_server.proofs.OneStep.{one_history}
-use Rattle.kd_server.proofs.laws.one_history.Goals as goal
-
-pub returns : goal.returns
-returns g c = λ events list others old new its last alike a b. one_history c.one_step.ensures g.S.Keeps g.T.Keeps events list others old new its last alike a b

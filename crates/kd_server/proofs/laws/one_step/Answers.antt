@@ -1,5 +1,0 @@
-use Rattle.kd_server.proofs.OneStep.{one_step}
-use Rattle.kd_server.proofs.laws.one_step.Goals as goal
-
-pub returns : goal.returns
-returns c = λ config ports rows event handled other new its h k. one_step c.one_change.ensures config ports rows event handled other new its h k

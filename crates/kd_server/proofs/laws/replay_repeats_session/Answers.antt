@@ -1,5 +1,0 @@
-use Rattle.kd_server.proofs.Recorded.{repeats_one}
-use Rattle.kd_server.proofs.laws.replay_repeats_session.Goals as goal
-
-pub returns : goal.returns
-returns g c = λ session old new its last text out s alike d. repeats_one c.one_step.ensures g.T.Keeps g.S.Keeps session old new its last text out s alike d

@@ -1,5 +1,0 @@
-use Rattle.kd_server.proofs.Recorded.{repeats_all}
-use Rattle.kd_server.proofs.laws.replay_repeats_sessions.Goals as goal
-
-pub returns : goal.returns
-returns g c = λ config ports rows last sessions its new text out f at d. repeats_all c.one_step.ensures g.T.Keeps config ports rows last sessions its new text out f at d

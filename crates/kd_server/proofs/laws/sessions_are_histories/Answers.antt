@@ -1,5 +1,0 @@
-use Rattle.kd_server.proofs.Recorded.{was_session}
-use Rattle.kd_server.proofs.laws.sessions_are_histories.Goals as goal
-
-pub returns : goal.returns
-returns c start = λ session old new s. was_session c.S.Keeps session old new s
