@@ -12,10 +12,10 @@ use Rattle.kd_event.specs.declared.event.Response.{Response}
 use Rattle.kd_event.specs.declared.event.Response.TheVariants as responses
 use Rattle.kd_event.specs.declared.ports.Ports.{Ports}
 use Rattle.kd_event.specs.declared.reason.Reason.TheVariants as reasons
-use Rattle.kd_laws.specs.Lives.{AreSteps, AreStepsOfAll, IsAnswerOf, IsIdle, Life, LivesAreHistories, Opening, Report, WasHistory, first_rows, reports}
+use Rattle.kd_laws.specs.Lives.{AreSteps, AreStepsOfAll, IsAnswerOf, IsIdle, IsStepOf, Life, LivesAreHistories, Opening, Report, WasHistory, first_rows, reports}
 use Rattle.kd_laws.specs.NoOverlap.{GivesLease, GivesOffer, GivesTo, GivesUpBetween, Happens, LeaseHistory, LeaseStep, NoOverlapAcross, Regives, ShortenedBetween, lifetime_of, now_of}
 use Rattle.kd_laws.specs.Replies.{RepliesReadBack, lifetime_told}
-use Rattle.kd_laws.specs.Sent.{IsAmong, IsAnsweredBy, IsGivenUp, IsShortened, IsSomeStep, NoReplyOverlaps, reports_of_all}
+use Rattle.kd_laws.specs.Sent.{IsAmong, IsAnsweredBy, IsGivenUp, IsShortened, IsSomeStep, NeverOverlapBy, NoReplyOverlaps, reports_of_all}
 use Rattle.kd_laws.proofs.LiveLeases.{requested_if}
 use Rattle.kd_laws.proofs.OneStep.{one_message}
 use Rattle.kd_laws.proofs.Ruled.{IsSilent, Ruled, ruled}
@@ -38,8 +38,10 @@ use Rattle.kd_wire.specs.declared.header.Header.{Header}
 
 -- an event is a step under a configuration that obeys all limits
 record IsSoundStep (r : Report) (e : LeaseStep) : Type 0 where
-  its : IsSomeStep r e
-  sound : IsSound its.config
+  config : Configuration
+  ports : Ports
+  is : IsStepOf config ports r e
+  sound : IsSound config
 
 -- the steps are the events at which something happens, in their order
 Follow : List Report → List LeaseStep → Type 0
@@ -68,7 +70,7 @@ sound_steps config ports sound [] es are = are
 sound_steps config ports sound (r ∷ rs) [] are = (are.0, sound_steps config ports sound rs [] are.1)
 sound_steps config ports sound (r ∷ rs) (e ∷ es) (inl idle) = inl (idle.0, sound_steps config ports sound rs (e ∷ es) idle.1)
 sound_steps config ports sound (r ∷ rs) (e ∷ es) (inr step) =
-    inr (record { its = record { config = config; ports = ports; is = step.0 }; sound = sound }, sound_steps config ports sound rs es step.1)
+    inr (record { config = config; ports = ports; is = step.0; sound = sound }, sound_steps config ports sound rs es step.1)
 
 opening_steps : (o : Opening) (next : Option (List Row)) → WasHistory o next → (es : List LeaseStep) → AreSteps o.config o.ports (reports o.calls) es → Follow (reports o.calls) es
 unfolding Follow
@@ -154,6 +156,11 @@ in_first (y ∷ list) tail (suc k) x less is =
     let i = in_first list tail k x (omega (arith, less)) is in
     record { front = y ∷ i.front; back = i.back; all = ap (λ l. y ∷ l) i.all }
 
+in_at : {A : Type 0} (list : List A) (k : ℕ) (x : A) → slice_get list k ≡ Some x → IsIn list x
+in_at [] k x is = absurd (none-some x is)
+in_at (y ∷ list) zero x is = record { front = []; back = list; all = ap (λ z. z ∷ list) (same_Some y x is) }
+in_at (y ∷ list) (suc k) x is = let i = in_at list k x is in record { front = y ∷ i.front; back = i.back; all = ap (λ l. y ∷ l) i.all }
+
 in_between : {A : Type 0} (first : List A) (e : A) (mid tail : List A) (k : ℕ) (x : A) → count first < k → k < count (first ++ e ∷ mid) → slice_get (first ++ e ∷ (mid ++ tail)) k ≡ Some x → IsIn mid x
 unfolding count
 in_between [] e mid tail zero x after before is = absurd (omega (arith, after))
@@ -217,20 +224,20 @@ module _ (read_back : RepliesReadBack) where
     response : Response
     response = responses.Reply given.destination given.reply
 
-    answered : IsAnswerOf is.its.ports e (Ok (record { now = now; response = response }))
-    answered = subst (IsAnswerOf is.its.ports e) given.answer is.its.is.answer
+    answered : IsAnswerOf is.ports e (Ok (record { now = now; response = response }))
+    answered = subst (IsAnswerOf is.ports e) given.answer is.is.answer
 
     sound : IsSound e.config
-    sound = subst IsSound (sym is.its.is.config_is) is.sound
+    sound = subst IsSound (sym is.is.config_is) is.sound
 
     small : lifetime_of e < 2 ^ 32
     small = let most = sound.times.lifetime.below in omega (arith, most)
 
-    by : (got : Outcome) → e.outcome ≡ Some got → Responds is.its.ports e.message got response → Decided e type client a seconds now
+    by : (got : Outcome) → e.outcome ≡ Some got → Responds is.ports e.message got response → Decided e type client a seconds now
     by (quiet reason) outcome responds = absurd (let same : response ≡ responses.Quiet reason = responds in cc)
     by (planned kind yiaddr options) outcome responds =
         let changes : Happens e (Some (planned kind yiaddr options)) = subst (Happens e) outcome happens in
-        let m : IsMessage e.message = record { datagram = r.event.bytes; bytes_are = given.datagram; reads = is.its.is.reads } in
+        let m : IsMessage e.message = record { datagram = r.event.bytes; bytes_are = given.datagram; reads = is.is.reads } in
         let back = read_back e.config e.before e.after e.message (now_of e) kind yiaddr options given.reply sound m changes responds.1 in
         let same = one_message given.reply back.reply given.gives.message back.reads given.gives.reads in
         let header : given.gives.message.header ≡ header_of_reply kind yiaddr e.message.header = ap (λ m. m.header) (sym same) ∙ back.header in
@@ -285,23 +292,20 @@ module _ (read_back : RepliesReadBack) where
       (λ ack. inr (acks e client a seconds now d.kind d.options (d.type_is ∙ ap type_number ack) d.told d.outcome d.changes d.by).0)
       offers_or_acks
 
-  module _ (lives : LivesAreHistories) (across : NoOverlapAcross) where
-    -- no two replies overlap
-    pub sent : NoReplyOverlaps
-    sent life is client a seconds now later between twice = ⊎_elim
+  module _ (across : NoOverlapAcross) (life : List Opening) (is : Life life) (all : List LeaseStep) (whole : LeaseHistory (first_rows life) all) (are : AreStepsOfAll life all) where
+    -- no two replies overlap, by the steps of a history
+    apart : NeverOverlapBy life all
+    apart client a seconds now later between twice = ⊎_elim
         (λ late. inl (omega (arith, late, one.1, p.time, q.time)))
         (λ loosened. inr (⊎_elim (λ up. inl (given_up up)) (λ short. inr (shortened short)) loosened))
         (across (first_rows life) es history i j e f client a regives) where
-          whole : (all : List LeaseStep) × LeaseHistory (first_rows life) all × AreStepsOfAll life all
-          whole = lives life is
+          steps : Follow (reports_of_all life) all
+          steps = life_steps life is all are
 
-          steps : Follow (reports_of_all life) whole.0
-          steps = life_steps life is whole.0 whole.2
-
-          early : IsParted twice.before twice.first (between ++ twice.second ∷ twice.after) whole.0
-          early = parted twice.before twice.first (between ++ twice.second ∷ twice.after) whole.0
+          early : IsParted twice.before twice.first (between ++ twice.second ∷ twice.after) all
+          early = parted twice.before twice.first (between ++ twice.second ∷ twice.after) all
               (busy_if twice.first.in_batch twice.first now twice.leases.destination twice.leases.reply twice.leases.answer)
-              (subst (λ (rs : List Report). Follow rs whole.0) twice.order steps)
+              (subst (λ (rs : List Report). Follow rs all) twice.order steps)
 
           late_part : IsParted between twice.second twice.after early.rest
           late_part = parted between twice.second twice.after early.rest
@@ -319,8 +323,11 @@ module _ (read_back : RepliesReadBack) where
           es : List LeaseStep
           es = early.first ++ e ∷ (late_part.first ++ tail)
 
+          grouped : all ≡ es
+          grouped = early.all ∙ ap (λ l. early.first ++ e ∷ l) late_part.all
+
           history : LeaseHistory (first_rows life) es
-          history = subst (LeaseHistory (first_rows life)) (early.all ∙ ap (λ l. early.first ++ e ∷ l) late_part.all) whole.1
+          history = subst (LeaseHistory (first_rows life)) grouped whole
 
           regrouped : (early.first ++ e ∷ late_part.first) ++ tail ≡ es
           regrouped = append_assoc early.first (e ∷ late_part.first) tail
@@ -357,12 +364,17 @@ module _ (read_back : RepliesReadBack) where
               let it = in_between early.first e late_part.first tail place step after before there in
               its_event between late_part.first it.front step it.back it.all late_part.before
 
-          given_up : GivesUpBetween es i j client a → IsAmong (IsGivenUp client a) between
+          a_step : (r : Report) (place : ℕ) (step : LeaseStep) → slice_get es place ≡ Some step → IsSoundStep r step → IsSomeStep all r step
+          a_step r place step there its =
+              let at = in_at es place step there in
+              record { config = its.config; ports = its.ports; is = its.is; front = at.front; back = at.back; there = grouped ∙ at.all }
+
+          given_up : GivesUpBetween es i j client a → IsAmong (IsGivenUp all client a) between
           given_up g =
               let it = event_of g.place g.step g.after g.before g.there in
-              record { front = it.front; report = it.report; back = it.back; all = it.all; is = record { step = g.step; is = it.is.its; gives_up = g.gives_up } }
+              record { front = it.front; report = it.report; back = it.back; all = it.all; is = record { step = g.step; is = a_step it.report g.place g.step g.there it.is; gives_up = g.gives_up } }
 
-          shortened : ShortenedBetween es i j e client a (now_of f) → IsAmong (IsShortened client a seconds later) between
+          shortened : ShortenedBetween es i j e client a (now_of f) → IsAmong (IsShortened all client a seconds later) between
           shortened s =
               let it = event_of s.place s.step s.after s.before s.there in
               record {
@@ -372,9 +384,15 @@ module _ (read_back : RepliesReadBack) where
                 all = it.all;
                 is = record {
                   step = s.step;
-                  is = it.is.its;
+                  is = a_step it.report s.place s.step s.there it.is;
                   renews = s.renews;
                   shorter = let short = s.shorter in omega (arith, short, one.1);
                   past = let past = s.past in omega (arith, past, q.time);
                 };
               }
+
+  -- no two replies of a life overlap
+  pub sent : LivesAreHistories → NoOverlapAcross → NoReplyOverlaps
+  sent lives across life is =
+      let whole = lives life is in
+      (whole.0, whole.1, whole.2, apart across life is whole.0 whole.1 whole.2)

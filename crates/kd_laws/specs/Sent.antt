@@ -8,8 +8,8 @@ use Rattle.kd_config.specs.Configuration.{Configuration}
 use Rattle.kd_event.specs.declared.destination.Destination.{Destination}
 use Rattle.kd_event.specs.declared.event.Response.TheVariants as responses
 use Rattle.kd_event.specs.declared.ports.Ports.{Ports}
-use Rattle.kd_laws.specs.Lives.{IsStepOf, Life, Opening, Report, reports}
-use Rattle.kd_laws.specs.NoOverlap.{GivesUp, LeaseStep, Renews, end_of, lifetime_of}
+use Rattle.kd_laws.specs.Lives.{AreStepsOfAll, IsStepOf, Life, Opening, Report, first_rows, reports}
+use Rattle.kd_laws.specs.NoOverlap.{GivesUp, LeaseHistory, LeaseStep, Renews, end_of, lifetime_of}
 use Rattle.kd_lease.specs.Client.{client_identity, kind_of}
 use Rattle.kd_options.specs.Joined.{value_of}
 use Rattle.kd_options.specs.Kind.{type_number}
@@ -68,37 +68,50 @@ pub record IsAmong (IsSuch : Report → Type 0) (list : List Report) : Type 0 wh
   pub all : list ≡ front ++ report ∷ back
   pub is : IsSuch report
 
--- an event is a step, by some configuration and ports
-pub record IsSomeStep (report : Report) (e : LeaseStep) : Type 0 where
+-- an event is one of these steps, by some configuration and ports
+pub record IsSomeStep (steps : List LeaseStep) (report : Report) (e : LeaseStep) : Type 0 where
   pub config : Configuration
   pub ports : Ports
   pub is : IsStepOf config ports report e
+  pub front : List LeaseStep
+  pub back : List LeaseStep
+  pub there : steps ≡ front ++ e ∷ back
 
 -- the client gave up the address: its RELEASE or DECLINE changed the row of the address
-pub record IsGivenUp (client : List ℕ) (a : ℕ) (report : Report) : Type 0 where
+pub record IsGivenUp (steps : List LeaseStep) (client : List ℕ) (a : ℕ)
+    (report : Report) : Type 0 where
   pub step : LeaseStep
-  pub is : IsSomeStep report step
+  pub is : IsSomeStep steps report step
   pub gives_up : GivesUp step client a
 
 -- the client asked for the address again under a lifetime of fewer seconds, and that lease has ended
 -- by this time
-pub record IsShortened (client : List ℕ) (a seconds moment : ℕ) (report : Report) : Type 0 where
+pub record IsShortened (steps : List LeaseStep) (client : List ℕ) (a seconds moment : ℕ)
+    (report : Report) : Type 0 where
   pub step : LeaseStep
-  pub is : IsSomeStep report step
+  pub is : IsSomeStep steps report step
   pub renews : Renews step client a
   pub shorter : lifetime_of step < seconds
   pub past : end_of step ≤ moment
 
--- no two replies of openings overlap: if an ACK leased an address to a client for some seconds, and
--- a later OFFER or ACK gives it to another, then these seconds have passed, in the server's time; or
--- in between the client gave the address up, or asked for it again under a shorter lifetime, which
--- has passed
-abbrev pub NeverOverlap : List Opening → Type 0
-NeverOverlap life =
+-- no two replies of openings overlap, by these steps: if an ACK leased an address to a client for
+-- some seconds, and a later OFFER or ACK gives it to another, then these seconds have passed, in the
+-- server's time; or in between the client gave the address up, or asked for it again under a shorter
+-- lifetime, which has passed
+abbrev pub NeverOverlapBy : List Opening → List LeaseStep → Type 0
+NeverOverlapBy life steps =
     (client : List ℕ) (a seconds now later : ℕ) (between : List Report)
     → GivesTwice life client a seconds now later between
     → (now + seconds ≤ later)
-    ⊎ (IsAmong (IsGivenUp client a) between ⊎ IsAmong (IsShortened client a seconds later) between)
+    ⊎ (IsAmong (IsGivenUp steps client a) between
+    ⊎ IsAmong (IsShortened steps client a seconds later) between)
+
+-- no two replies of openings overlap, by the steps of their history: each is an event of an opening,
+-- under its configuration and from the rows that the one before it left
+abbrev pub NeverOverlap : List Opening → Type 0
+NeverOverlap life =
+    (steps : List LeaseStep) × LeaseHistory (first_rows life) steps × AreStepsOfAll life steps
+    × NeverOverlapBy life steps
 
 -- whatever came in the openings of a life, no two of its replies overlap
 abbrev pub NoReplyOverlaps : Type 0
