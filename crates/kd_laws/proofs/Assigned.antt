@@ -1,6 +1,6 @@
 -- The address that a reply assigns has 32 bits: it is in the prefix of a subnet of the configuration.
-use Rattle.std.proofs.Common.{◌≡◌, ℕ, ◌+◌, ◌^◌, ◌<◌, Bool, true, false, not, ◌&&◌, ◌||◌, ◌==◌, nat_eq, nat_le, nat_lt, List, [], ◌∷◌, ◌++◌, Option, None, Some, ⊎_elim, sym, subst, arith, is_none}
-use Rattle.std.specs.Prelude.{IfSome, option_map}
+use Rattle.std.proofs.Common.{◌≡◌, ℕ, ◌+◌, ◌^◌, ◌<◌, Bool, true, false, not, ◌&&◌, ◌||◌, ◌==◌, nat_eq, nat_le, nat_lt, List, [], ◌∷◌, ◌++◌, Option, None, Some, ⊎_elim, ◌⊎◌, inl, inr, sym, subst, arith, is_none}
+use Rattle.std.specs.Prelude.{IfSome, IsSomeAnd, option_map}
 use Rattle.std.specs.List.{AllByRecursion, list_all, list_any}
 use Rattle.std.proofs.lemmas.Bool.{and_parts, eqb-true, false≢true, leb-true, ltb-true, or_cases}
 use Rattle.kd_config.specs.Address.{has_address, prefix_size}
@@ -13,17 +13,18 @@ use Rattle.kd_config.specs.declared.reservation.Identity.{Identity}
 use Rattle.kd_config.specs.declared.reservation.Reservation.{Reservation}
 use Rattle.kd_config.specs.declared.subnet.Subnet.{Subnet}
 use Rattle.kd_event.specs.declared.reason.Reason.{Reason}
-use Rattle.kd_event.specs.declared.reason.Reason.TheVariants as reasons
 use Rattle.kd_lease.specs.Choice.{Asking, Rank, address_reserved, client_reservation, fitting_for, free_for, has_rank, has_such, held_row, is_from, live_row, past_row, pooled, requested_address, reserved_anywhere, same_address, usable}
 use Rattle.kd_lease.specs.Choice.Rank.{reserved as reserved_rank, own, past, asked, fresh, expired}
+use Rattle.kd_lease.specs.Laws.{EndsAreFounded, IsFounded}
 use Rattle.kd_lease.specs.Plan.{Outcome, ReplyOption}
 use Rattle.kd_lease.specs.Plan.Outcome.{planned, quiet}
-use Rattle.kd_lease.specs.Rules.{Does, GivesUpLease, InSubnet, Informs, OnDiscover, OnNamed, OnRenew, OnRequest, OnSelect, Sets, UnlessOther, WithAsked, WithCiaddr, declined_row, held_at, named_server, other_server, released_row, renewed_address, serving_subnet}
+use Rattle.kd_lease.specs.Rules.{Does, IsReplyOf, IsSilent, Makes, client_has, declined_row, ending, released_row, renewable, rule_of, serving_subnet}
 use Rattle.kd_lease.specs.SubnetOf.{message_place, served_by, subnet_serving}
 use Rattle.kd_lease.specs.declared.plan.PlanKind.{PlanKind}
 use Rattle.kd_lease.specs.declared.plan.PlanKind.TheVariants as kinds
+use Rattle.kd_lease.specs.declared.rule.Ending.{Ending}
+use Rattle.kd_lease.specs.declared.rule.Ending.TheVariants as ends
 use Rattle.kd_options.specs.declared.kind.MessageType.{MessageType}
-use Rattle.kd_options.specs.declared.kind.MessageType.TheVariants as types
 use Rattle.kd_rows.specs.Table.{row_at}
 use Rattle.kd_rows.specs.declared.row.Row.{Row}
 use Rattle.kd_laws.proofs.Told.{find-each}
@@ -132,113 +133,53 @@ quiet_32 : (reason : Reason) (outcome : Outcome) → outcome ≡ quiet reason �
 unfolding Assigns32
 quiet_32 reason outcome is = subst Assigns32 (sym is) tt
 
--- zero has 32 bits
-zero_32 : (a : ℕ) → a ≡ 0 → a < 2 ^ 32
-zero_32 a is = omega (arith, is)
-
--- the address that a DISCOVER is offered
-discover_32 : (q : Asking) (s : Subnet) (set : Option Row) (outcome : Outcome) → StandsIn s → OnDiscover q s set outcome → Assigns32 outcome
+-- a reply assigns such an address if the address that it is to assign is one
+reply_32 : (kind : PlanKind) (a : ℕ) (outcome : Outcome) → a < 2 ^ 32 → IsReplyOf kind a outcome → Assigns32 outcome
 unfolding Assigns32
-discover_32 q s set (planned kinds.Offer a options) is h = fitting_32 q s a is (ranked_fits q s h.0.rank a h.0.first.ranked)
-discover_32 q s set (planned kinds.Ack a options) is h = absurd h
-discover_32 q s set (planned kinds.Nak a options) is h = absurd h
-discover_32 q s set (planned kinds.InformAck a options) is h = absurd h
-discover_32 q s set (quiet reason) is h = tt
+reply_32 kind a (planned its b options) small h = omega (arith, small, h.1)
+reply_32 kind a (quiet reason) small h = absurd h
 
--- a REQUEST to this server
-select_32 : (q : Asking) (s : Subnet) (wanted : ℕ) (set : Option Row) (outcome : Outcome) → StandsIn s → OnSelect q s wanted set outcome → Assigns32 outcome
-unfolding Assigns32
-select_32 q s wanted set (planned kinds.Offer a options) is h = absurd h
-select_32 q s wanted set (planned kinds.Ack a options) is h = fitting_32 q s a is (and_parts (fitting_for q s a) (free_for q a) h.1).0
-select_32 q s wanted set (planned kinds.Nak a options) is h = zero_32 a h.0
-select_32 q s wanted set (planned kinds.InformAck a options) is h = absurd h
-select_32 q s wanted set (quiet reason) is h = tt
-
--- a REQUEST that names no server
-renew_32 : (q : Asking) (s : Subnet) (wanted : ℕ) (set : Option Row) (outcome : Outcome) → StandsIn s → OnRenew q s wanted set outcome → Assigns32 outcome
-unfolding Assigns32
-renew_32 q s wanted set (planned kinds.Offer a options) is h = absurd h
-renew_32 q s wanted set (planned kinds.Ack a options) is h = within_32 s.prefix a is.sound.prefix h.1
-renew_32 q s wanted set (planned kinds.Nak a options) is h = zero_32 a h.0
-renew_32 q s wanted set (planned kinds.InformAck a options) is h = absurd h
-renew_32 q s wanted set (quiet reason) is h = tt
-
--- an INFORM
-inform_32 : (s : Subnet) (set : Option Row) (outcome : Outcome) → Informs s set outcome → Assigns32 outcome
-unfolding Assigns32
-inform_32 s set (planned kinds.Offer a options) h = absurd h
-inform_32 s set (planned kinds.Ack a options) h = absurd h
-inform_32 s set (planned kinds.Nak a options) h = absurd h
-inform_32 s set (planned kinds.InformAck a options) h = zero_32 a h.0
-inform_32 s set (quiet reason) h = tt
-
--- what is done under a condition assigns such an address if it does so where it is done
-in_subnet : (s : Option Subnet) (Does : Subnet → Option Row → Outcome → Type 0) (set : Option Row) (outcome : Outcome)
-    → IfSome s StandsIn → ((t : Subnet) → StandsIn t → Does t set outcome → Assigns32 outcome) → InSubnet s Does set outcome → Assigns32 outcome
-in_subnet None Does set outcome is each h = quiet_32 reasons.NoSubnet outcome h.1
-in_subnet (Some t) Does set outcome is each h = each t is h
-
-with_asked : (a : Option ℕ) (Does : ℕ → Option Row → Outcome → Type 0) (set : Option Row) (outcome : Outcome)
-    → ((b : ℕ) → Does b set outcome → Assigns32 outcome) → WithAsked a Does set outcome → Assigns32 outcome
-with_asked None Does set outcome each h = quiet_32 reasons.NoRequested outcome h.1
-with_asked (Some b) Does set outcome each h = each b h
-
-with_ciaddr : (b : Bool) (Does : Option Row → Outcome → Type 0) (set : Option Row) (outcome : Outcome)
-    → (Does set outcome → Assigns32 outcome) → WithCiaddr b Does set outcome → Assigns32 outcome
-with_ciaddr true Does set outcome each h = quiet_32 reasons.NoCiaddr outcome h.1
-with_ciaddr false Does set outcome each h = each h
-
-unless_other : (b : Bool) (Does : Option Row → Outcome → Type 0) (set : Option Row) (outcome : Outcome)
-    → (Does set outcome → Assigns32 outcome) → UnlessOther b Does set outcome → Assigns32 outcome
-unless_other true Does set outcome each h = quiet_32 reasons.OtherServer outcome h.1
-unless_other false Does set outcome each h = each h
-
-gives_up : (b : Bool) (row : Row) (done : Reason) (set : Option Row) (outcome : Outcome) → GivesUpLease b row done set outcome → Assigns32 outcome
-gives_up true row done set outcome h = quiet_32 done outcome h.1
-gives_up false row done set outcome h = quiet_32 reasons.NotHeld outcome h.1
-
-module _ (q : Asking) (sound : IsSound q.config) (set : Option Row) (outcome : Outcome) where
-  -- the subnet that serves the message
-  serving : IfSome (serving_subnet q) StandsIn
+module _ (founded : EndsAreFounded) (q : Asking) (sound : IsSound q.config) (set : Option Row) (outcome : Outcome) where
+  -- the subnet that serves the message stands in the configuration
+  serving : (s : Subnet) → serving_subnet q ≡ Some s → StandsIn s
   unfolding subnet_serving
-  serving =
-      find-each StandsIn (served_by (message_place q.config.server q.message.header) q.names) q.config.subnets (all_stand q.config.subnets sound.subnets.together sound.subnets.each)
+  serving s is =
+      subst (λ (o : Option Subnet). IfSome o StandsIn) is
+      (find-each StandsIn (served_by (message_place q.config.server q.message.header) q.names) q.config.subnets (all_stand q.config.subnets sound.subnets.together sound.subnets.each))
 
-  -- a REQUEST that names a server
-  named_32 : (b : Bool) → OnNamed q b set outcome → Assigns32 outcome
-  named_32 true h =
-      with_asked (requested_address q.message) (λ a. InSubnet (serving_subnet q) (λ s. OnSelect q s a)) set outcome
-      (λ a. in_subnet (serving_subnet q) (λ s. OnSelect q s a) set outcome serving (λ s. select_32 q s a set outcome)) h
-  named_32 false h = quiet_32 reasons.OtherServer outcome h.1
+  -- an address that is offered
+  offer_32 : (type : MessageType) (about : Option ℕ) → IsFounded q type about ends.Offer → Makes q about ends.Offer set outcome → Assigns32 outcome
+  offer_32 type None rests h = absurd h
+  offer_32 type (Some a) rests h =
+      let choice = rests.1.2 in reply_32 kinds.Offer a outcome (fitting_32 q rests.1.0 a (serving rests.1.0 rests.1.1) (ranked_fits q rests.1.0 choice.rank a choice.first.ranked)) h.1
 
-  -- a REQUEST
-  request_32 : (server : Option ℕ) → OnRequest q server set outcome → Assigns32 outcome
-  request_32 None h =
-      with_asked (renewed_address q.message) (λ a. InSubnet (serving_subnet q) (λ s. OnRenew q s a)) set outcome
-      (λ a. in_subnet (serving_subnet q) (λ s. OnRenew q s a) set outcome serving (λ s. renew_32 q s a set outcome)) h
-  request_32 (Some server) h = named_32 (server == q.config.server) h
+  -- an address that is leased
+  lease_32 : (type : MessageType) (about : Option ℕ) → IsFounded q type about ends.Lease → Makes q about ends.Lease set outcome → Assigns32 outcome
+  lease_32 type None rests h = absurd h
+  lease_32 type (Some a) rests h = reply_32 kinds.Ack a outcome (fitting_32 q rests.1.0 a (serving rests.1.0 rests.1.1) (fits rests.1.2)) h.1 where
+    fits : (usable q rests.1.0 a ≡ true) ⊎ (renewable q rests.1.0 a ≡ true) → fitting_for q rests.1.0 a ≡ true
+    fits (inl may) = (and_parts (fitting_for q rests.1.0 a) (free_for q a) may).0
+    fits (inr may) = (and_parts (client_has q a) (fitting_for q rests.1.0 a) may).1
 
-  -- every message
-  sets_32 : (type : MessageType) → Sets q type set outcome → Assigns32 outcome
-  sets_32 types.Discover h = in_subnet (serving_subnet q) (OnDiscover q) set outcome serving (λ s. discover_32 q s set outcome) h
-  sets_32 types.Request h = request_32 (named_server q.message) h
-  sets_32 types.Decline h =
-      let Gives : ℕ → Option Row → Outcome → Type 0 = λ a. GivesUpLease (held_at q a) (declined_row q a) reasons.Declined in
-      unless_other (other_server q.config.server (named_server q.message)) (WithAsked (requested_address q.message) Gives) set outcome
-      (with_asked (requested_address q.message) Gives set outcome (λ a. gives_up (held_at q a) (declined_row q a) reasons.Declined set outcome)) h
-  sets_32 types.Release h =
-      let a = q.message.header.ciaddr in
-      let Gives : Option Row → Outcome → Type 0 = GivesUpLease (held_at q a) (released_row q a) reasons.Released in
-      unless_other (other_server q.config.server (named_server q.message)) (WithCiaddr (a == 0) Gives) set outcome
-      (with_ciaddr (a == 0) Gives set outcome (gives_up (held_at q a) (released_row q a) reasons.Released set outcome)) h
-  sets_32 types.Inform h =
-      with_ciaddr (q.message.header.ciaddr == 0) (InSubnet (serving_subnet q) Informs) set outcome
-      (in_subnet (serving_subnet q) Informs set outcome serving (λ s is. inform_32 s set outcome)) h
-  sets_32 types.Offer h = quiet_32 reasons.NotRequest outcome h.1
-  sets_32 types.Ack h = quiet_32 reasons.NotRequest outcome h.1
-  sets_32 types.Nak h = quiet_32 reasons.NotRequest outcome h.1
+  -- a message that is silent about an address
+  silent_32 : (about : Option ℕ) (row : ℕ → Option Row) (reason : Reason) → IsSomeAnd about (λ a. IsSilent (row a) reason set outcome) → Assigns32 outcome
+  silent_32 None row reason h = absurd h
+  silent_32 (Some a) row reason h = quiet_32 reason outcome h.1
+
+  -- every end
+  made_32 : (type : MessageType) (about : Option ℕ) (end : Ending) → IsFounded q type about end → Makes q about end set outcome → Assigns32 outcome
+  made_32 type about ends.Offer rests h = offer_32 type about rests h
+  made_32 type about ends.Lease rests h = lease_32 type about rests h
+  made_32 type about ends.Nak rests h = reply_32 kinds.Nak 0 outcome (omega arith) h.1
+  made_32 type about ends.GiveBack rests h = quiet_32 _ outcome h.1
+  made_32 type about ends.Withhold rests h = silent_32 about (λ a. Some (declined_row q a)) _ h
+  made_32 type about ends.Release rests h = silent_32 about (λ a. Some (released_row q a)) _ h
+  made_32 type about ends.Inform rests h = reply_32 kinds.InformAck 0 outcome (omega arith) h.1
+  made_32 type about (ends.Quiet reason) rests h = quiet_32 reason outcome h.1
 
 -- a planned reply assigns an address of 32 bits, or zero
-pub assigned_32 : (q : Asking) (set : Option Row) (kind : PlanKind) (a : ℕ) (options : List ReplyOption) → IsSound q.config → Does q set (planned kind a options) → a < 2 ^ 32
+pub assigned_32 : EndsAreFounded → (q : Asking) (set : Option Row) (kind : PlanKind) (a : ℕ) (options : List ReplyOption) → IsSound q.config → Does q set (planned kind a options) → a < 2 ^ 32
 unfolding Assigns32
-assigned_32 q set kind a options sound does = sets_32 q sound set (planned kind a options) does.type does.sets
+assigned_32 founded q set kind a options sound does =
+    let sets = does.sets in
+    made_32 founded q sound set (planned kind a options) does.type sets.address (ending q sets.address (rule_of q does.type)) (founded q does.type sets.address sets.about) sets.makes

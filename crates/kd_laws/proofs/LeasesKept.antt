@@ -10,7 +10,7 @@ use Rattle.kd_event.specs.declared.reason.Reason.{Reason}
 use Rattle.kd_lease.specs.Change.{after, asked_for}
 use Rattle.kd_lease.specs.Choice.{Asking, live_row}
 use Rattle.kd_lease.specs.Client.{client_identity}
-use Rattle.kd_lease.specs.Laws.{HeldHasNoRank, HeldIsNotGiven, HeldIsNotUsable, SetsNow}
+use Rattle.kd_lease.specs.Laws.{EndsAreFounded, HeldHasNoRank, HeldIsNotGiven, HeldIsNotUsable, SetsNow}
 use Rattle.kd_lease.specs.Plan.{Outcome, ReplyOption}
 use Rattle.kd_lease.specs.Plan.Outcome.{planned, quiet}
 use Rattle.kd_lease.specs.Rules.{Sets, bound_state, leased_row}
@@ -109,7 +109,7 @@ next e es j client a start since time less moment later shorter (inl g) = inl (n
 next e es j client a start since time less moment later shorter (inr g) = inr (next_shortened e es j client a start since time less moment later shorter g)
 
 -- given the laws of rows and of the rules
-module _ (get_of_set : GetOfSet) (latest_of_set : LatestOfSet) (sets_now : SetsNow) (no_rank : HeldHasNoRank) (not_usable : HeldIsNotUsable) (not_given : HeldIsNotGiven) where
+module _ (get_of_set : GetOfSet) (latest_of_set : LatestOfSet) (sets_now : SetsNow) (founded : EndsAreFounded) (no_rank : HeldHasNoRank) (not_usable : HeldIsNotUsable) (not_given : HeldIsNotGiven) where
   -- what is read at the address of a row that is set, and elsewhere
   read_here : (row : Row) (rows : List Row) (a : ℕ) → (row.address == a) ≡ true → row_at (with_row row rows) a ≡ Some row
   read_here row rows a e = get_of_set row rows a ∙ ap (λ (b : Bool). if b then Some row else row_at rows a) e
@@ -227,7 +227,7 @@ module _ (get_of_set : GetOfSet) (latest_of_set : LatestOfSet) (sets_now : SetsN
         let changed : row.changed ≡ q.now = sets_now q r.does.type row outcome (subst (λ (o : Option Row). Sets q r.does.type o outcome) is r.does.sets) in
         let becomes : e.after ≡ with_row row e.before = c.becomes ∙ ap (after e.before) is in
         ⊎_elim (λ s. inl (subst (λ (rows : List Row). IsSafe rows a client start time) (sym becomes) s)) (λ l. inr (⊎_elim (λ g. inl (given_up r row becomes g)) (λ s. inr (shortened r row becomes s)) l))
-        (set_keeps q r.does.type row a client start time changed (omega arith) (may_set no_rank not_usable q r.does.type c.set outcome r.does.sets row is) safe)
+        (set_keeps q r.does.type row a client start time changed (omega arith) (may_set founded no_rank not_usable q r.does.type c.set outcome r.does.sets row is) safe)
 
     by_set : (r : Ruled e.config e.before c.names e.message (now_of e) c.set outcome) (o : Option Row) → c.set ≡ o → IsSafe e.after a client start time ⊎ Loosens e client a start time
     by_set r None is = same is
@@ -255,7 +255,7 @@ module _ (get_of_set : GetOfSet) (latest_of_set : LatestOfSet) (sets_now : SetsN
     by_rule : Ruled e.config e.before c.names e.message (now_of e) c.set (planned kinds.Ack a l.options) → IsSafe e.after a client (now_of e) (lifetime_of e)
     by_rule r =
         let q = asked_for e.config e.before c.names e.message (now_of e) r.client in
-        let is : c.set ≡ Some (leased_row q a) = acked q r.does.type c.set a l.options (r.does.is ∙ l.request) r.does.sets in
+        let is : c.set ≡ Some (leased_row q a) = acked q r.does.type c.set a l.options r.does.sets in
         let becomes : e.after ≡ with_row (leased_row q a) e.before = c.becomes ∙ ap (after e.before) is in
         subst (λ (rows : List Row). IsSafe rows a client (now_of e) (lifetime_of e)) (sym becomes)
         (lease_safe q a client (same_Some r.client client (sym r.by ∙ l.by)) (omega arith))

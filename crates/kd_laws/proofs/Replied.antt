@@ -12,6 +12,7 @@ use Rattle.kd_event.specs.declared.reason.Reason.TheVariants as reasons
 use Rattle.kd_lease.specs.Change.{AnswersTo, Changes, ForClient, HasReplyOptions, Unless, WhereFits, asked_for, fits_in}
 use Rattle.kd_lease.specs.Choice.{Asking}
 use Rattle.kd_lease.specs.Client.{client_identity, first_byte, identity_by, identity_by_hardware, reply_room, server_message}
+use Rattle.kd_lease.specs.Laws.{EndsAreFounded}
 use Rattle.kd_lease.specs.Plan.{Outcome, ReplyOption, option_of_item}
 use Rattle.kd_lease.specs.Plan.Outcome.{planned, quiet}
 use Rattle.kd_lease.specs.ReplyOf.{ciaddr_of_reply, flags_of_reply, header_of_reply, needed, within_room}
@@ -166,7 +167,7 @@ type_is kinds.Ack = (omega arith, omega arith)
 type_is kinds.InformAck = (omega arith, omega arith)
 type_is kinds.Nak = (omega arith, omega arith)
 
-module _ (q : Asking) (sound : IsSound q.config) (fields : IsHeader q.message.header) (kind : PlanKind) (yiaddr : ℕ) (options : List ReplyOption)
+module _ (founded : EndsAreFounded) (q : Asking) (sound : IsSound q.config) (fields : IsHeader q.message.header) (kind : PlanKind) (yiaddr : ℕ) (options : List ReplyOption)
     (is : IsAnswer q kind yiaddr options) (items : List Item) (are : map option_of_item items ≡ options) where
   abbrev room : ℕ
   room = reply_room q.message
@@ -208,7 +209,7 @@ module _ (q : Asking) (sound : IsSound q.config) (fields : IsHeader q.message.he
   -- the text reads as the header and the kept items
   reads : Reads (reply_text header room items) (read_back header room items)
   reads = rereads header room items (record {
-    fields = reply_header kind yiaddr q.message.header fields (assigned_32 q is.row kind yiaddr options sound is.does);
+    fields = reply_header kind yiaddr q.message.header fields (assigned_32 founded q is.row kind yiaddr options sound is.does);
     op = reply_op kind yiaddr q.message.header;
     codes = codes_distinct;
     plain = said 52 refl ∙ told_no_overload q sound kind yiaddr;
@@ -229,7 +230,7 @@ module _ (q : Asking) (sound : IsSound q.config) (fields : IsHeader q.message.he
   }
 
 -- the law
-pub replies_read : MessagesHaveSizes → RepliesReadBack
-replies_read sizes config old new m now kind yiaddr options text sound message changes is =
+pub replies_read : EndsAreFounded → MessagesHaveSizes → RepliesReadBack
+replies_read founded sizes config old new m now kind yiaddr options text sound message changes is =
     let answer = answered config old new m now kind yiaddr options changes in
-    answer_reads (asked_for config old changes.names m now answer.0) sound (sizes m message).fields kind yiaddr options answer.1 is.0 is.1 text is.2
+    answer_reads founded (asked_for config old changes.names m now answer.0) sound (sizes m message).fields kind yiaddr options answer.1 is.0 is.1 text is.2

@@ -21,6 +21,7 @@ use Rattle.kd_laws.proofs.OneStep.{one_message}
 use Rattle.kd_laws.proofs.Ruled.{IsSilent, Ruled, ruled}
 use Rattle.kd_lease.specs.Change.{Changes}
 use Rattle.kd_lease.specs.Client.{client_identity, kind_of}
+use Rattle.kd_lease.specs.Laws.{EndsAreFounded}
 use Rattle.kd_lease.specs.Plan.{Outcome, ReplyOption}
 use Rattle.kd_lease.specs.Plan.Outcome.{planned, quiet}
 use Rattle.kd_lease.specs.ReplyOf.{header_of_reply}
@@ -217,7 +218,7 @@ yiaddr_of : (kind : PlanKind) (y : ℕ) (h : Header) → (header_of_reply kind y
 unfolding header_of_reply
 yiaddr_of kind y h = refl
 
-module _ (read_back : RepliesReadBack) where
+module _ (founded : EndsAreFounded) (read_back : RepliesReadBack) where
   decided : (r : Report) (e : LeaseStep) (type : MessageType) (client : List ℕ) (a seconds now : ℕ) → IsSoundStep r e → Happens e e.outcome → IsAnsweredBy type r client a seconds now
       → Decided e type client a seconds now
   decided r e type client a seconds now is happens given = by answered.1.0 answered.1.1 answered.1.2 where
@@ -263,7 +264,7 @@ module _ (read_back : RepliesReadBack) where
     silent s = let no : planned kinds.Ack a options ≡ quiet s.1.0 = s.1.1 in absurd (cc)
 
     by : Ruled e.config e.before c.names e.message (now_of e) c.set (planned kinds.Ack a options) → kind_of e.message ≡ type_number types.Request
-    by r = sym r.does.is ∙ ap type_number (requested_if _ r.does.type c.set a options r.does.sets)
+    by r = sym r.does.is ∙ ap type_number (requested_if founded _ r.does.type c.set a options r.does.sets)
 
   acks : (e : LeaseStep) (client : List ℕ) (a seconds now : ℕ) (kind : PlanKind) (options : List ReplyOption) → plan_type kind ≡ 5 → lifetime_told kind e.config.times ≡ Some (big_bytes 4 seconds)
       → e.outcome ≡ Some (planned kind a options) → Changes e.config e.before e.message (now_of e) e.after (planned kind a options) → client_identity e.message ≡ Some client

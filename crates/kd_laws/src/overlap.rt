@@ -15,6 +15,7 @@ pub fn no_overlap_across()
     kd_rows::laws::get_of_set();
     kd_rows::laws::latest_of_set();
     kd_lease::laws::sets_now();
+    kd_lease::laws::ends_are_founded();
     kd_lease::laws::held_has_no_rank();
     kd_lease::laws::held_is_not_usable();
     kd_lease::laws::held_is_not_given();

@@ -12,6 +12,7 @@ pub fn replies_read_back()
     ensures { RepliesReadBack }
 {
     kd_options::laws::messages_have_sizes();
+    kd_lease::laws::ends_are_founded();
 }
 
 /// No address is sent to two clients at once, over all runs of a server, one after another, with any
@@ -26,6 +27,7 @@ pub fn replies_read_back()
 pub fn no_reply_overlaps()
     ensures { NoReplyOverlaps }
 {
+    kd_lease::laws::ends_are_founded();
     replies_read_back();
     lives_are_histories();
     no_overlap_across();

@@ -1,22 +1,24 @@
 -- What a message does: the rows that are set were changed now and are in range, a NAK sets none,
 -- and no address that another client holds is assigned.
-use Rattle.std.proofs.Common.{◌≡◌, ℕ, ◌<◌, ◌^◌, ◌==◌, Bool, true, false, Option, Some, None, IfSome, option_map, sym, ◌∙◌, subst, arith, if◌then◌else◌}
+use Rattle.std.proofs.Common.{◌≡◌, ℕ, ◌<◌, ◌^◌, Bool, true, false, List, [], Option, Some, None, IfSome, option_map, refl, sym, ◌∙◌, subst, arith, if◌then◌else◌, ⊎_elim}
 use Rattle.std.proofs.lemmas.Bool.{false≢true}
 use Rattle.std.proofs.lemmas.Option.{none-some}
 use Rattle.kd_config.specs.Sound.{AreTimes}
-use Rattle.kd_config.specs.declared.subnet.Subnet.{Subnet}
 use Rattle.kd_event.specs.declared.reason.Reason.{Reason}
 use Rattle.kd_event.specs.declared.reason.Reason.TheVariants as reasons
 use Rattle.kd_options.specs.declared.kind.MessageType.{MessageType}
-use Rattle.kd_options.specs.declared.kind.MessageType.TheVariants as types
 use Rattle.kd_rows.specs.Row.{IsInRange}
 use Rattle.kd_rows.specs.declared.row.Row.{Row}
-use Rattle.kd_lease.specs.Choice.{Asking, has_rank, usable, requested_address}
-use Rattle.kd_lease.specs.Laws.{IsAnothers}
-use Rattle.kd_lease.specs.Plan.{Outcome}
+use Rattle.kd_lease.specs.Choice.{Asking}
+use Rattle.kd_lease.specs.Laws.{IsAnothers, IsFounded}
+use Rattle.kd_lease.specs.Plan.{Outcome, ReplyOption}
 use Rattle.kd_lease.specs.Plan.Outcome.{planned, quiet}
-use Rattle.kd_lease.specs.Rules.{Does, GivesUpLease, InSubnet, Informs, IsQuiet, IsSetAt, OnDiscover, OnNamed, OnOther, OnRenew, OnRequest, OnSelect, Sets, UnlessOther, WithAsked, WithCiaddr, declined_row, held_at, leased_to, leased_row, renewable, other_server, offered_row, released_row, renewed_address, named_server, serving_subnet}
+use Rattle.kd_lease.specs.Rules.{Does, IsSetAt, Makes, Replies, Sets, declined_row, ending, leased_row, leased_to, offered_row, released_row, row_of_offer, rule_of}
+use Rattle.kd_lease.specs.declared.plan.PlanKind.{PlanKind}
 use Rattle.kd_lease.specs.declared.plan.PlanKind.TheVariants as kinds
+use Rattle.kd_lease.specs.declared.rule.Ending.{Ending}
+use Rattle.kd_lease.specs.declared.rule.Ending.TheVariants as ends
+use Rattle.kd_lease.proofs.Founded.{founded}
 use Rattle.kd_lease.proofs.Held.{no_rank, not_renewed, not_usable}
 
 -- a row is set now, if the configuration's times are in range
@@ -60,117 +62,93 @@ good_declined q a = record { changed = λ i. q.now; in_range = λ early times. l
 none_set : (q : Asking) (set : Option Row) (outcome : Outcome) → set ≡ None → IsFair q outcome → IsGuarded q set outcome
 none_set q set outcome none fair = record { good = λ row e. absurd (none-some row (sym none ∙ e)); nak = λ e. none; fair = fair }
 
-one_set : (q : Asking) (set : Option Row) (outcome : Outcome) (row : Row) → set ≡ Some row → IsGood q row → (IsNak outcome → ⊥) → IsFair q outcome → IsGuarded q set outcome
-one_set q set outcome row is good other fair = record {
-  good = λ r e. let same : row ≡ r = cc in subst (IsGood q) same good;
-  nak = λ e. absurd (other e);
-  fair = fair;
+silent_set : (q : Asking) (set : Option Row) (outcome : Outcome) (reason : Reason) → outcome ≡ quiet reason → ((row : Row) → set ≡ Some row → IsGood q row) → IsGuarded q set outcome
+silent_set q set outcome reason is good = record {
+  good = good;
+  nak = λ e. absurd (subst IsNak is e);
+  fair = λ a row held g. subst (λ (p : Outcome). Gives p a) is g;
 }
 
-quiet_set : (q : Asking) (reason : Reason) (set : Option Row) (outcome : Outcome) → IsQuiet reason set outcome → IsGuarded q set outcome
-quiet_set q reason set outcome h = none_set q set outcome h.0 (λ a row held g. subst (λ (p : Outcome). Gives p a) h.1 g)
+-- a row that is set is this one
+this_set : (q : Asking) (set : Option Row) (row : Row) → set ≡ Some row → IsGood q row → (r : Row) → set ≡ Some r → IsGood q r
+this_set q set row is good r e = let same : row ≡ r = cc in subst (IsGood q) same good
 
-in_subnet : (q : Asking) (o : Option Subnet) (Does : Subnet → Option Row → Outcome → Type 0) (set : Option Row) (outcome : Outcome)
-    → ((s : Subnet) → Does s set outcome → IsGuarded q set outcome) → InSubnet o Does set outcome → IsGuarded q set outcome
-in_subnet q None Does set outcome each h = quiet_set q _ set outcome h
-in_subnet q (Some s) Does set outcome each h = each s h
+-- no row is set
+no_row : (q : Asking) (set : Option Row) → set ≡ None → (r : Row) → set ≡ Some r → IsGood q r
+no_row q set none r e = absurd (none-some r (sym none ∙ e))
 
-with_asked : (q : Asking) (o : Option ℕ) (Does : ℕ → Option Row → Outcome → Type 0) (set : Option Row) (outcome : Outcome)
-    → ((a : ℕ) → Does a set outcome → IsGuarded q set outcome) → WithAsked o Does set outcome → IsGuarded q set outcome
-with_asked q None Does set outcome each h = quiet_set q _ set outcome h
-with_asked q (Some a) Does set outcome each h = each a h
+-- a reply without an address is fair
+none_given : (q : Asking) (kind : PlanKind) (set : Option Row) (a : ℕ) (outcome : Outcome) → Replies None kind a set outcome → ((b : ℕ) (options : List ReplyOption) → Gives (planned kind b options) b → ⊥) → IsGuarded q set outcome
+none_given q kind set a (planned its b options) h never = none_set q set (planned its b options) h.0 (λ c row held g. never b options (subst (λ (k : PlanKind). Gives (planned k b options) b) h.1.0 (at its c g))) where
+  at : (k : PlanKind) (c : ℕ) → Gives (planned k b options) c → Gives (planned k b options) b
+  at kinds.Offer c g = refl
+  at kinds.Ack c g = refl
+  at kinds.Nak c g = g
+  at kinds.InformAck c g = g
+none_given q kind set a (quiet reason) h never = absurd h.1
 
-with_ciaddr : (q : Asking) (b : Bool) (Does : Option Row → Outcome → Type 0) (set : Option Row) (outcome : Outcome)
-    → (Does set outcome → IsGuarded q set outcome) → WithCiaddr b Does set outcome → IsGuarded q set outcome
-with_ciaddr q true Does set outcome each h = quiet_set q _ set outcome h
-with_ciaddr q false Does set outcome each h = each h
+-- a reply that assigns an address that no other client holds is fair
+given : (q : Asking) (kind : PlanKind) (row : Option Row) (a : ℕ) (set : Option Row) (outcome : Outcome) → Replies row kind a set outcome
+    → ((r : Row) → row ≡ Some r → IsGood q r) → (IsNak (planned kind a []) → ⊥) → ((r : Row) → IsAnothers q a r → ⊥) → IsGuarded q set outcome
+given q kind row a set (planned its b options) h good no_nak fair = record {
+  good = λ r e. good r (sym h.0 ∙ e);
+  nak = λ e. absurd (no_nak (nak_of kind (subst (λ (k : PlanKind). IsNak (planned k b options)) h.1.0 e)));
+  fair = λ c r held g. fair r (subst (λ (x : ℕ). IsAnothers q x r) (sym (at its c g) ∙ h.1.1) held);
+} where
+  nak_of : (k : PlanKind) → IsNak (planned k b options) → IsNak (planned k a [])
+  nak_of kinds.Offer e = e
+  nak_of kinds.Ack e = e
+  nak_of kinds.Nak e = e
+  nak_of kinds.InformAck e = e
 
-unless_other : (q : Asking) (b : Bool) (Does : Option Row → Outcome → Type 0) (set : Option Row) (outcome : Outcome)
-    → (Does set outcome → IsGuarded q set outcome) → UnlessOther b Does set outcome → IsGuarded q set outcome
-unless_other q true Does set outcome each h = quiet_set q _ set outcome h
-unless_other q false Does set outcome each h = each h
+  at : (k : PlanKind) (c : ℕ) → Gives (planned k b options) c → b ≡ c
+  at kinds.Offer c g = g
+  at kinds.Ack c g = g
+  at kinds.Nak c g = absurd g
+  at kinds.InformAck c g = absurd g
+given q kind row a set (quiet reason) h good no_nak fair = absurd h.1
 
-gives_up : (q : Asking) (b : Bool) (row : Row) (done : Reason) (set : Option Row) (outcome : Outcome) → IsGood q row → GivesUpLease b row done set outcome → IsGuarded q set outcome
-gives_up q true row done set outcome good h = one_set q set outcome row h.0 good (λ e. subst IsNak h.1 e) (λ a row held g. subst (λ (p : Outcome). Gives p a) h.1 g)
-gives_up q false row done set outcome good h = quiet_set q _ set outcome h
+-- the row of an offer, if there is one
+offered_good : (q : Asking) (a : ℕ) (b : Bool) (r : Row) → (if b then None else Some (offered_row q a)) ≡ Some r → IsGood q r
+offered_good q a true r e = absurd (none-some r e)
+offered_good q a false r e = let same : offered_row q a ≡ r = cc in subst (IsGood q) same (good_offered q a)
 
-discovered : (q : Asking) (s : Subnet) (set : Option Row) (outcome : Outcome) → OnDiscover q s set outcome → IsGuarded q set outcome
-discovered q s set (planned kinds.Offer a options) h = by (leased_to q a) h.1 where
-  fair : IsFair q (planned kinds.Offer a options)
-  fair b row held g = false≢true (sym (no_rank q s h.0.rank b row held) ∙ subst (λ (c : ℕ). has_rank q s h.0.rank c ≡ true) g h.0.first.ranked)
+offers : (q : Asking) (type : MessageType) (about : Option ℕ) (set : Option Row) (outcome : Outcome) → IsFounded q type about ends.Offer → Makes q about ends.Offer set outcome → IsGuarded q set outcome
+offers q type None set outcome rests h = absurd h
+offers q type (Some a) set outcome rests h =
+    given q kinds.Offer (row_of_offer q a) a set outcome h (offered_good q a (leased_to q a)) (λ e. e)
+    (λ r held. let choice = rests.1.2 in false≢true (sym (no_rank q rests.1.0 choice.rank a r held) ∙ choice.first.ranked))
 
-  by : (b : Bool) → set ≡ (if b then None else Some (offered_row q a)) → IsGuarded q set (planned kinds.Offer a options)
-  by true e = none_set q set (planned kinds.Offer a options) e fair
-  by false e = one_set q set (planned kinds.Offer a options) (offered_row q a) e (good_offered q a) (λ f. f) fair
-discovered q s set (planned kinds.Ack a options) h = absurd h
-discovered q s set (planned kinds.Nak a options) h = absurd h
-discovered q s set (planned kinds.InformAck a options) h = absurd h
-discovered q s set (quiet reason) h = none_set q set (quiet reason) h.1 (λ a row held g. g)
+leases : (q : Asking) (type : MessageType) (about : Option ℕ) (set : Option Row) (outcome : Outcome) → IsFounded q type about ends.Lease → Makes q about ends.Lease set outcome → IsGuarded q set outcome
+leases q type None set outcome rests h = absurd h
+leases q type (Some a) set outcome rests h =
+    given q kinds.Ack (Some (leased_row q a)) a set outcome h (this_set q (Some (leased_row q a)) (leased_row q a) refl (good_leased q a)) (λ e. e)
+    (λ r held. ⊎_elim (λ may. false≢true (sym (not_usable q rests.1.0 a r held) ∙ may)) (λ may. false≢true (sym (not_renewed q rests.1.0 a r held) ∙ may)) rests.1.2)
 
-selected : (q : Asking) (s : Subnet) (asked : ℕ) (set : Option Row) (outcome : Outcome) → OnSelect q s asked set outcome → IsGuarded q set outcome
-selected q s asked set (planned kinds.Offer a options) h = absurd h
-selected q s asked set (planned kinds.Ack a options) h = one_set q set (planned kinds.Ack a options) (leased_row q a) h.2 (good_leased q a) (λ f. f) fair where
-  fair : IsFair q (planned kinds.Ack a options)
-  fair b row held g = false≢true (sym (not_usable q s b row held) ∙ subst (λ (c : ℕ). usable q s c ≡ true) g h.1)
-selected q s asked set (planned kinds.Nak a options) h = none_set q set (planned kinds.Nak a options) h.2 (λ b row held g. g)
-selected q s asked set (planned kinds.InformAck a options) h = absurd h
-selected q s asked set (quiet reason) h = absurd h
+withholds : (q : Asking) (about : Option ℕ) (set : Option Row) (outcome : Outcome) → Makes q about ends.Withhold set outcome → IsGuarded q set outcome
+withholds q None set outcome h = absurd h
+withholds q (Some a) set outcome h = silent_set q set outcome reasons.Declined h.1 (this_set q set (declined_row q a) h.0 (good_declined q a))
 
-renewed : (q : Asking) (s : Subnet) (asked : ℕ) (set : Option Row) (outcome : Outcome) → OnRenew q s asked set outcome → IsGuarded q set outcome
-renewed q s asked set (planned kinds.Offer a options) h = absurd h
-renewed q s asked set (planned kinds.Ack a options) h = one_set q set (planned kinds.Ack a options) (leased_row q a) h.3 (good_leased q a) (λ f. f) fair where
-  fair : IsFair q (planned kinds.Ack a options)
-  fair b row held g = false≢true (sym (not_renewed q s b row held) ∙ subst (λ (c : ℕ). renewable q s c ≡ true) g h.2)
-renewed q s asked set (planned kinds.Nak a options) h = none_set q set (planned kinds.Nak a options) h.2 (λ b row held g. g)
-renewed q s asked set (planned kinds.InformAck a options) h = absurd h
-renewed q s asked set (quiet reason) h = none_set q set (quiet reason) h.2 (λ a row held g. g)
+releases : (q : Asking) (about : Option ℕ) (set : Option Row) (outcome : Outcome) → Makes q about ends.Release set outcome → IsGuarded q set outcome
+releases q None set outcome h = absurd h
+releases q (Some a) set outcome h = silent_set q set outcome reasons.Released h.1 (this_set q set (released_row q a) h.0 (good_released q a))
 
-informed : (q : Asking) (s : Subnet) (set : Option Row) (outcome : Outcome) → Informs s set outcome → IsGuarded q set outcome
-informed q s set (planned kinds.Offer a options) h = absurd h
-informed q s set (planned kinds.Ack a options) h = absurd h
-informed q s set (planned kinds.Nak a options) h = absurd h
-informed q s set (planned kinds.InformAck a options) h = none_set q set (planned kinds.InformAck a options) h.1 (λ b row held g. g)
-informed q s set (quiet reason) h = absurd h
+back_good : (q : Asking) (offer : Option ℕ) (set : Option Row) → set ≡ option_map (released_row q) offer → (r : Row) → set ≡ Some r → IsGood q r
+back_good q None set is = no_row q set is
+back_good q (Some a) set is = this_set q set (released_row q a) is (good_released q a)
 
-given_back : (q : Asking) (set : Option Row) (outcome : Outcome) → OnOther q set outcome → IsGuarded q set outcome
-given_back q set outcome h = by h.0.0 h.0.2 where
-  fair : IsFair q outcome
-  fair a row held g = subst (λ (p : Outcome). Gives p a) h.1 g
-
-  by : (offer : Option ℕ) → set ≡ option_map (released_row q) offer → IsGuarded q set outcome
-  by None e = none_set q set outcome e fair
-  by (Some a) e = one_set q set outcome (released_row q a) e (good_released q a) (λ f. subst IsNak h.1 f) fair
-
-named : (q : Asking) (b : Bool) (set : Option Row) (outcome : Outcome) → OnNamed q b set outcome → IsGuarded q set outcome
-named q true set outcome h =
-    with_asked q (requested_address q.message) (λ a. InSubnet (serving_subnet q) (λ s. OnSelect q s a)) set outcome
-    (λ a g. in_subnet q (serving_subnet q) (λ s. OnSelect q s a) set outcome (λ s f. selected q s a set outcome f) g) h
-named q false set outcome h = given_back q set outcome h
-
-requested : (q : Asking) (server : Option ℕ) (set : Option Row) (outcome : Outcome) → OnRequest q server set outcome → IsGuarded q set outcome
-requested q None set outcome h =
-    with_asked q (renewed_address q.message) (λ a. InSubnet (serving_subnet q) (λ s. OnRenew q s a)) set outcome
-    (λ a g. in_subnet q (serving_subnet q) (λ s. OnRenew q s a) set outcome (λ s f. renewed q s a set outcome f) g) h
-requested q (Some server) set outcome h = named q _ set outcome h
+ends_guarded : (q : Asking) (type : MessageType) (about : Option ℕ) (end : Ending) (set : Option Row) (outcome : Outcome) → IsFounded q type about end → Makes q about end set outcome → IsGuarded q set outcome
+ends_guarded q type about ends.Offer set outcome rests h = offers q type about set outcome rests h
+ends_guarded q type about ends.Lease set outcome rests h = leases q type about set outcome rests h
+ends_guarded q type about ends.Nak set outcome rests h = none_given q kinds.Nak set 0 outcome h (λ b options g. g)
+ends_guarded q type about ends.GiveBack set outcome rests h = silent_set q set outcome reasons.OtherServer h.1 (back_good q h.0.0 set h.0.2)
+ends_guarded q type about ends.Withhold set outcome rests h = withholds q about set outcome h
+ends_guarded q type about ends.Release set outcome rests h = releases q about set outcome h
+ends_guarded q type about ends.Inform set outcome rests h = none_given q kinds.InformAck set 0 outcome h (λ b options g. g)
+ends_guarded q type about (ends.Quiet reason) set outcome rests h = silent_set q set outcome reason h.1 (no_row q set h.0)
 
 pub guarded : (q : Asking) (type : MessageType) (set : Option Row) (outcome : Outcome) → Sets q type set outcome → IsGuarded q set outcome
-guarded q types.Discover set outcome h = in_subnet q (serving_subnet q) (OnDiscover q) set outcome (λ s g. discovered q s set outcome g) h
-guarded q types.Offer set outcome h = quiet_set q _ set outcome h
-guarded q types.Request set outcome h = requested q (named_server q.message) set outcome h
-guarded q types.Decline set outcome h =
-    unless_other q (other_server q.config.server (named_server q.message)) (WithAsked (requested_address q.message) (λ a. GivesUpLease (held_at q a) (declined_row q a) reasons.Declined)) set outcome
-    (λ g. with_asked q (requested_address q.message) (λ a. GivesUpLease (held_at q a) (declined_row q a) reasons.Declined) set outcome
-    (λ a f. gives_up q (held_at q a) (declined_row q a) reasons.Declined set outcome (good_declined q a) f) g) h
-guarded q types.Ack set outcome h = quiet_set q _ set outcome h
-guarded q types.Nak set outcome h = quiet_set q _ set outcome h
-guarded q types.Release set outcome h =
-    let a = q.message.header.ciaddr in
-    unless_other q (other_server q.config.server (named_server q.message)) (WithCiaddr (a == 0) (GivesUpLease (held_at q a) (released_row q a) reasons.Released)) set outcome
-    (λ g. with_ciaddr q (a == 0) (GivesUpLease (held_at q a) (released_row q a) reasons.Released) set outcome
-    (λ f. gives_up q (held_at q a) (released_row q a) reasons.Released set outcome (good_released q a) f) g) h
-guarded q types.Inform set outcome h =
-    with_ciaddr q (q.message.header.ciaddr == 0) (InSubnet (serving_subnet q) Informs) set outcome
-    (λ g. in_subnet q (serving_subnet q) Informs set outcome (λ s f. informed q s set outcome f) g) h
+guarded q type set outcome h = ends_guarded q type h.address (ending q h.address (rule_of q type)) set outcome (founded q type h.address h.about) h.makes
 
 -- the row that a message sets is set now
 pub set_now : (q : Asking) (set : Option Row) (outcome : Outcome) → Does q set outcome → q.now < 2 ^ 40 → AreTimes q.config.times → IfSome set (IsSetAt q.now)

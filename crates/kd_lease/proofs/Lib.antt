@@ -1,4 +1,5 @@
 pub mod Aged
+pub mod Founded
 pub mod Giving
 pub mod Guards
 pub mod Held
@@ -8,6 +9,7 @@ pub mod Passing
 pub mod Pools
 pub mod Records
 pub mod Reserved
+pub mod Same
 pub mod Single
 pub mod Valuing
 pub mod Withheld

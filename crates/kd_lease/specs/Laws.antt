@@ -1,17 +1,22 @@
 -- What is true of the rules for every configuration, table, message and time.
-use Rattle.std.specs.Prelude.{◌≡◌, ℕ, true, false, ◌⊎◌, List, Option, Some, None}
+use Rattle.std.specs.Prelude.{◌≡◌, ℕ, true, false, ◌⊎◌, List, Option, Some, None, IsSomeAnd}
 use Rattle.kd_config.specs.Configuration.{Configuration}
 use Rattle.kd_config.specs.declared.subnet.Subnet.{Subnet}
+use Rattle.kd_options.specs.Kind.{type_number}
 use Rattle.kd_options.specs.Message.{Seen}
 use Rattle.kd_options.specs.declared.kind.MessageType.{MessageType}
+use Rattle.kd_options.specs.declared.kind.MessageType.TheVariants as types
 use Rattle.kd_rows.specs.Table.{belongs_to, row_at}
 use Rattle.kd_rows.specs.declared.row.Row.{Row}
 use Rattle.kd_lease.specs.Change.{Changes, Decides}
-use Rattle.kd_lease.specs.Choice.{Asking, Rank, has_rank, live_row, usable}
+use Rattle.kd_lease.specs.Choice.{Asking, Choice, Rank, has_rank, live_row, usable}
+use Rattle.kd_lease.specs.Client.{kind_of}
 use Rattle.kd_lease.specs.Plan.{Outcome, ReplyOption}
 use Rattle.kd_lease.specs.Plan.Outcome.{planned}
-use Rattle.kd_lease.specs.Rules.{Sets, renewable}
+use Rattle.kd_lease.specs.Rules.{Does, IsAbout, Makes, Sets, ending, held_at, renewable, rule_of, serving_subnet}
 use Rattle.kd_lease.specs.declared.plan.PlanKind.TheVariants as kinds
+use Rattle.kd_lease.specs.declared.rule.Ending.{Ending}
+use Rattle.kd_lease.specs.declared.rule.Ending.TheVariants as ends
 
 -- a row that is set has the present time as its time of change
 abbrev pub SetsNow : Type 0
@@ -50,6 +55,36 @@ HeldIsNotGiven =
     (row : Row) → IsAnothers q a row
     → Sets q type set (planned kinds.Offer a options)
     ⊎ Sets q type set (planned kinds.Ack a options) → ⊥
+
+-- what the end of a message of this type rests on: an address is offered to a DISCOVER if it is the
+-- choice for the client, leased to a REQUEST if the client may be assigned it or renew it, and held
+-- back for a DECLINE or released for a RELEASE if the client holds it
+abbrev pub IsFounded : Asking → MessageType → Option ℕ → Ending → Type 0
+IsFounded q type about ends.Offer =
+    (type ≡ types.Discover)
+    × IsSomeAnd about (λ a. (s : Subnet) × (serving_subnet q ≡ Some s) × Choice q s a)
+IsFounded q type about ends.Lease =
+    (type ≡ types.Request)
+    × IsSomeAnd about (λ a. (s : Subnet) × (serving_subnet q ≡ Some s)
+    × ((usable q s a ≡ true) ⊎ (renewable q s a ≡ true)))
+IsFounded q type about ends.Withhold =
+    (type ≡ types.Decline) × IsSomeAnd about (λ a. held_at q a ≡ true)
+IsFounded q type about ends.Release =
+    (type ≡ types.Release) × IsSomeAnd about (λ a. held_at q a ≡ true)
+IsFounded q type about other = Unit {0}
+
+-- every end rests on that
+abbrev pub EndsAreFounded : Type 0
+EndsAreFounded =
+    (q : Asking) (type : MessageType) (about : Option ℕ) → IsAbout q (rule_of q type) about
+    → IsFounded q type about (ending q about (rule_of q type))
+
+-- what a message does is what its end makes, for each type and address that it has
+abbrev pub EndsDecide : Type 0
+EndsDecide =
+    (q : Asking) (type : MessageType) (about : Option ℕ) (set : Option Row) (outcome : Outcome)
+    → type_number type ≡ kind_of q.message → IsAbout q (rule_of q type) about → Does q set outcome
+    → Makes q about (ending q about (rule_of q type)) set outcome
 
 -- a message whose classes have these names, at a given time and over a table, sets at most one row
 -- and gets at most one result

@@ -1,4 +1,5 @@
 pub mod Aging
+pub mod Cases
 pub mod Change
 pub mod Choice
 pub mod Client

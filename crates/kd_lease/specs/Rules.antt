@@ -2,7 +2,8 @@
 -- and what the message gets: the kind of its reply and the address that the reply assigns, or the
 -- reason why there is none. The options of a reply are not defined here. The rows, their states and
 -- the times for which an offer and a declined address are held are our own.
-use Rattle.std.specs.Prelude.{◌≡◌, ℕ, ◌+◌, Bool, true, false, not, ◌&&◌, ◌==◌, ◌⊎◌, List, [], Option, Some, None, option_map, if◌then◌else◌}
+use Rattle.std.specs.Prelude.{◌≡◌, ℕ, ◌+◌, Bool, true, false, not, ◌&&◌, ◌==◌, List, [], ◌∷◌, Option, Some, None, IsSomeAnd, is_some, option_map, if◌then◌else◌}
+use Rattle.std.specs.List.{find, list_any}
 use Rattle.kd_config.specs.Address.{has_address}
 use Rattle.kd_config.specs.declared.subnet.Subnet.{Subnet}
 use Rattle.kd_event.specs.declared.reason.Reason.{Reason}
@@ -17,13 +18,20 @@ use Rattle.kd_rows.specs.Table.{belongs_to, row_at}
 use Rattle.kd_rows.specs.declared.row.Row.{Row}
 use Rattle.kd_rows.specs.declared.row.State.{State}
 use Rattle.kd_rows.specs.declared.row.State.TheVariants as states
-use Rattle.kd_lease.specs.Choice.{Asking, Choice, NoChoice, address_of_value, fitting_for, has_such, held_row, live_row, set_later, usable, requested_address}
+use Rattle.kd_lease.specs.Choice.{Asking, Choice, NoChoice, address_of_value, fitting_for, free_for, has_such, held_row, live_row, set_later, requested_address}
 use Rattle.kd_lease.specs.Client.{kind_of}
 use Rattle.kd_lease.specs.Plan.{Outcome}
 use Rattle.kd_lease.specs.Plan.Outcome.{planned, quiet}
 use Rattle.kd_lease.specs.SubnetOf.{subnet_serving}
+use Rattle.kd_lease.specs.declared.plan.PlanKind.{PlanKind}
 use Rattle.kd_lease.specs.declared.plan.PlanKind.TheVariants as kinds
 use Rattle.kd_lease.specs.declared.question.Question.{Question}
+use Rattle.kd_lease.specs.declared.rule.Check.{Check}
+use Rattle.kd_lease.specs.declared.rule.Check.TheVariants as checks
+use Rattle.kd_lease.specs.declared.rule.Ending.{Ending}
+use Rattle.kd_lease.specs.declared.rule.Ending.TheVariants as ends
+use Rattle.kd_lease.specs.declared.rule.Rule.{Rule}
+use Rattle.kd_lease.specs.declared.rule.Rule.TheVariants as rules
 
 -- what a question of the code asks
 abbrev pub asking : Question → Asking
@@ -108,75 +116,13 @@ IsNewest rows such None = (a : ℕ) → such a ≡ false
 IsNewest rows such (Some a) =
     (such a ≡ true) × ((b : ℕ) → such b ≡ true → set_later rows b a ≡ false)
 
--- no row is set and there is no reply, for this reason
-abbrev pub IsQuiet : Reason → Option Row → Outcome → Type 0
-IsQuiet reason set outcome = (set ≡ None) × (outcome ≡ quiet reason)
-
 -- the subnet that serves the message
 abbrev pub serving_subnet : Asking → Option Subnet
 serving_subnet q = subnet_serving q.config q.names q.message.header
 
--- what is done in a subnet; nothing if there is none
-abbrev pub InSubnet : Option Subnet → (Subnet → Option Row → Outcome → Type 0) → Option Row
-    → Outcome → Type 0
-InSubnet None Does set outcome = IsQuiet reasons.NoSubnet set outcome
-InSubnet (Some s) Does set outcome = Does s set outcome
-
--- what is done with the address that is asked for; nothing if there is none
-abbrev pub WithAsked : Option ℕ → (ℕ → Option Row → Outcome → Type 0) → Option Row → Outcome
-    → Type 0
-WithAsked None Does set outcome = IsQuiet reasons.NoRequested set outcome
-WithAsked (Some a) Does set outcome = Does a set outcome
-
--- what is done if the client states its address; nothing if that is zero
-abbrev pub WithCiaddr : Bool → (Option Row → Outcome → Type 0) → Option Row → Outcome → Type 0
-WithCiaddr true Does set outcome = IsQuiet reasons.NoCiaddr set outcome
-WithCiaddr false Does set outcome = Does set outcome
-
 -- the row that an offer sets; none if the client leases the address
 abbrev pub row_of_offer : Asking → ℕ → Option Row
 row_of_offer q a = if leased_to q a then None else Some (offered_row q a)
-
--- a DISCOVER in its subnet (section 4.3.1): an offer of the address for the client
-abbrev pub OnDiscover : Asking → Subnet → Option Row → Outcome → Type 0
-OnDiscover q s set (planned kinds.Offer a options) = Choice q s a × (set ≡ row_of_offer q a)
-OnDiscover q s set (quiet reason) = NoChoice q s × (set ≡ None) × (reason ≡ reasons.NoAddress)
-OnDiscover q s set other = ⊥
-
--- a REQUEST to this server for an address (section 4.3.2, SELECTING): the address is leased if the
--- client may be assigned it, otherwise there is a NAK
-abbrev pub OnSelect : Asking → Subnet → ℕ → Option Row → Outcome → Type 0
-OnSelect q s asked set (planned kinds.Ack a options) =
-    (a ≡ asked) × (usable q s a ≡ true) × (set ≡ Some (leased_row q a))
-OnSelect q s asked set (planned kinds.Nak a options) =
-    (a ≡ 0) × (usable q s asked ≡ false) × (set ≡ None)
-OnSelect q s asked set other = ⊥
-
--- a REQUEST to another server: the newest offer to the client, if there is one, is released
-abbrev pub OnOther : Asking → Option Row → Outcome → Type 0
-OnOther q set outcome =
-    ((offer : Option ℕ) × IsNewest q.rows (offered_to q) offer
-    × (set ≡ option_map (released_row q) offer)) × (outcome ≡ quiet reasons.OtherServer)
-
--- why a REQUEST that names no server is refused: the address is outside the subnet's prefix, or the
--- client has a row there but may not renew this address
-abbrev pub IsRenewalRefused : Asking → Subnet → ℕ → Type 0
-IsRenewalRefused q s a =
-    (has_address s.prefix a ≡ false)
-    ⊎ (((b : ℕ) × (is_record q s b ≡ true)) × (renewable q s a ≡ false))
-
--- a REQUEST that names no server (section 4.3.2, INIT-REBOOT, RENEWING and REBINDING): a client
--- that the server knows in the subnet may renew its lease there
-abbrev pub OnRenew : Asking → Subnet → ℕ → Option Row → Outcome → Type 0
-OnRenew q s asked set (planned kinds.Ack a options) =
-    (a ≡ asked) × (has_address s.prefix a ≡ true) × (renewable q s a ≡ true)
-    × (set ≡ Some (leased_row q a))
-OnRenew q s asked set (planned kinds.Nak a options) =
-    (a ≡ 0) × IsRenewalRefused q s asked × (set ≡ None)
-OnRenew q s asked set (quiet reason) =
-    (has_address s.prefix asked ≡ true) × ((b : ℕ) → is_record q s b ≡ false) × (set ≡ None)
-    × (reason ≡ reasons.NoRecord)
-OnRenew q s asked set other = ⊥
 
 -- the server that a message names, option 54
 abbrev pub named_server : Seen → Option ℕ
@@ -192,63 +138,178 @@ other_server server (Some named) = not (named == server)
 abbrev pub renewed_address : Seen → Option ℕ
 renewed_address m = if m.header.ciaddr == 0 then requested_address m else Some m.header.ciaddr
 
--- a REQUEST that names a server, this one or another
-abbrev pub OnNamed : Asking → Bool → Option Row → Outcome → Type 0
-OnNamed q true set outcome =
-    WithAsked (requested_address q.message)
-    (λ a. InSubnet (serving_subnet q) (λ s. OnSelect q s a)) set outcome
-OnNamed q false set outcome = OnOther q set outcome
+-- the address that the client says it has, unless that is zero
+abbrev pub ciaddr_in : Seen → Option ℕ
+ciaddr_in m = if m.header.ciaddr == 0 then None else Some m.header.ciaddr
 
--- a REQUEST, by the server that it names (section 4.3.2)
-abbrev pub OnRequest : Asking → Option ℕ → Option Row → Outcome → Type 0
-OnRequest q None set outcome =
-    WithAsked (renewed_address q.message)
-    (λ a. InSubnet (serving_subnet q) (λ s. OnRenew q s a)) set outcome
-OnRequest q (Some server) set outcome = OnNamed q (server == q.config.server) set outcome
+-- ---- the address that a message is about
 
--- a lease or an offer that the client gives up: this row is set if the client holds it
-abbrev pub GivesUpLease : Bool → Row → Reason → Option Row → Outcome → Type 0
-GivesUpLease true row done set outcome = (set ≡ Some row) × (outcome ≡ quiet done)
-GivesUpLease false row done set outcome = IsQuiet reasons.NotHeld set outcome
+-- the address to offer to the client, or none if there is none
+abbrev pub IsChosen : Asking → Subnet → Option ℕ → Type 0
+IsChosen q s None = NoChoice q s
+IsChosen q s (Some a) = Choice q s a
 
--- what is done unless the message names another server
-abbrev pub UnlessOther : Bool → (Option Row → Outcome → Type 0) → Option Row → Outcome → Type 0
-UnlessOther true Does set outcome = IsQuiet reasons.OtherServer set outcome
-UnlessOther false Does set outcome = Does set outcome
+-- the same in a subnet, if there is one
+abbrev pub IsChosenIn : Asking → Option Subnet → Option ℕ → Type 0
+IsChosenIn q None about = about ≡ None
+IsChosenIn q (Some s) about = IsChosen q s about
 
--- a DECLINE (section 4.3.3): the address that it names is held back if the client holds it
-abbrev pub OnDecline : Asking → Option Row → Outcome → Type 0
-OnDecline q set outcome =
-    UnlessOther (other_server q.config.server (named_server q.message))
-    (WithAsked (requested_address q.message)
-    (λ a. GivesUpLease (held_at q a) (declined_row q a) reasons.Declined)) set outcome
+-- the address that a message is about, by its rule
+abbrev pub IsAbout : Asking → Rule → Option ℕ → Type 0
+IsAbout q rules.Discover about = IsChosenIn q (serving_subnet q) about
+IsAbout q rules.Select about = about ≡ requested_address q.message
+IsAbout q rules.Renew about = about ≡ renewed_address q.message
+IsAbout q rules.Decline about = about ≡ requested_address q.message
+IsAbout q rules.Release about = about ≡ ciaddr_in q.message
+IsAbout q rules.Inform about = about ≡ ciaddr_in q.message
+IsAbout q rules.Server about = about ≡ None
 
--- a RELEASE (section 4.3.4): the client's address is released if the client holds it
-abbrev pub OnRelease : Asking → Option Row → Outcome → Type 0
-OnRelease q set outcome =
-    let a = q.message.header.ciaddr in
-    UnlessOther (other_server q.config.server (named_server q.message))
-    (WithCiaddr (a == 0) (GivesUpLease (held_at q a) (released_row q a) reasons.Released)) set
-    outcome
+-- ---- the checks
 
--- the reply to an INFORM sets no row
-abbrev pub Informs : Subnet → Option Row → Outcome → Type 0
-Informs s set (planned kinds.InformAck a options) = (a ≡ 0) × (set ≡ None)
-Informs s set other = ⊥
+-- there is an address, and it passes a test
+abbrev pub passes : (ℕ → Bool) → Option ℕ → Bool
+passes test None = false
+passes test (Some a) = test a
 
--- an INFORM (section 4.3.5), in its subnet
-abbrev pub OnInform : Asking → Option Row → Outcome → Type 0
-OnInform q set outcome =
-    WithCiaddr (q.message.header.ciaddr == 0) (InSubnet (serving_subnet q) Informs) set outcome
+-- a subnet serves the message, there is an address, and it passes a test there
+abbrev pub passes_in : (Subnet → ℕ → Bool) → Option Subnet → Option ℕ → Bool
+passes_in test None about = false
+passes_in test (Some s) about = passes (test s) about
 
--- what a message of this type does; a type that servers send does nothing
-abbrev pub Sets : Asking → MessageType → Option Row → Outcome → Type 0
-Sets q types.Discover set outcome = InSubnet (serving_subnet q) (OnDiscover q) set outcome
-Sets q types.Request set outcome = OnRequest q (named_server q.message) set outcome
-Sets q types.Decline set outcome = OnDecline q set outcome
-Sets q types.Release set outcome = OnRelease q set outcome
-Sets q types.Inform set outcome = OnInform q set outcome
-Sets q other set outcome = IsQuiet reasons.NotRequest set outcome
+-- a subnet serves the message, and the client has a row at an address in its prefix
+abbrev pub known_in : Asking → Option Subnet → Bool
+known_in q None = false
+known_in q (Some s) = list_any (λ row. is_record q s row.address) q.rows
+
+-- a message about this address passes a check
+abbrev pub holds_at : Asking → Option ℕ → Check → Bool
+holds_at q about checks.Server = not (other_server q.config.server (named_server q.message))
+holds_at q about checks.Address = is_some about
+holds_at q about checks.Choice = is_some about
+holds_at q about checks.Subnet = is_some (serving_subnet q)
+holds_at q about checks.Prefix =
+    passes_in (λ s a. has_address s.prefix a) (serving_subnet q) about
+holds_at q about checks.Client = known_in q (serving_subnet q)
+holds_at q about checks.Owner = passes (client_has q) about
+holds_at q about checks.Fits = passes_in (fitting_for q) (serving_subnet q) about
+holds_at q about checks.Free = passes (free_for q) about
+holds_at q about checks.Held = passes (held_at q) about
+
+-- ---- the rules
+
+-- the rule for a message of a type that names a server or none
+abbrev pub rule_by : MessageType → Option ℕ → Rule
+rule_by types.Discover named = rules.Discover
+rule_by types.Request None = rules.Renew
+rule_by types.Request (Some server) = rules.Select
+rule_by types.Decline named = rules.Decline
+rule_by types.Release named = rules.Release
+rule_by types.Inform named = rules.Inform
+rule_by other named = rules.Server
+
+-- the checks of a rule, in order, each with how a message ends that does not pass it
+abbrev pub checks_in : Rule → List (Check × Ending)
+checks_in rules.Discover =
+    (checks.Subnet, ends.Quiet reasons.NoSubnet)
+    ∷ (checks.Choice, ends.Quiet reasons.NoAddress) ∷ []
+checks_in rules.Select =
+    (checks.Server, ends.GiveBack)
+    ∷ (checks.Address, ends.Quiet reasons.NoRequested)
+    ∷ (checks.Subnet, ends.Quiet reasons.NoSubnet)
+    ∷ (checks.Fits, ends.Nak)
+    ∷ (checks.Free, ends.Nak) ∷ []
+checks_in rules.Renew =
+    (checks.Server, ends.GiveBack)
+    ∷ (checks.Address, ends.Quiet reasons.NoRequested)
+    ∷ (checks.Subnet, ends.Quiet reasons.NoSubnet)
+    ∷ (checks.Prefix, ends.Nak)
+    ∷ (checks.Client, ends.Quiet reasons.NoRecord)
+    ∷ (checks.Owner, ends.Nak)
+    ∷ (checks.Fits, ends.Nak) ∷ []
+checks_in rules.Decline =
+    (checks.Server, ends.Quiet reasons.OtherServer)
+    ∷ (checks.Address, ends.Quiet reasons.NoRequested)
+    ∷ (checks.Held, ends.Quiet reasons.NotHeld) ∷ []
+checks_in rules.Release =
+    (checks.Server, ends.Quiet reasons.OtherServer)
+    ∷ (checks.Address, ends.Quiet reasons.NoCiaddr)
+    ∷ (checks.Held, ends.Quiet reasons.NotHeld) ∷ []
+checks_in rules.Inform =
+    (checks.Address, ends.Quiet reasons.NoCiaddr)
+    ∷ (checks.Subnet, ends.Quiet reasons.NoSubnet) ∷ []
+checks_in rules.Server = []
+
+-- how a message ends that passes all of them
+abbrev pub end_by : Rule → Ending
+end_by rules.Discover = ends.Offer
+end_by rules.Select = ends.Lease
+end_by rules.Renew = ends.Lease
+end_by rules.Decline = ends.Withhold
+end_by rules.Release = ends.Release
+end_by rules.Inform = ends.Inform
+end_by rules.Server = ends.Quiet reasons.NotRequest
+
+-- a message about this address does not pass the check of a line
+abbrev pub fails : Asking → Option ℕ → Check × Ending → Bool
+fails q about line = not (holds_at q about line.0)
+
+-- how a message ends: as the line says whose check it does not pass first, if there is one, or else
+-- as the rule does
+abbrev pub ends_by : Option (Check × Ending) → Ending → Ending
+ends_by None done = done
+ends_by (Some line) done = line.1
+
+-- how a message about this address ends by a rule
+abbrev pub ending : Asking → Option ℕ → Rule → Ending
+ending q about rule = ends_by (find (fails q about) (checks_in rule)) (end_by rule)
+
+-- ---- what a message sets and gets
+
+-- what a message gets is a reply of this kind, which assigns this address or zero
+abbrev pub IsReplyOf : PlanKind → ℕ → Outcome → Type 0
+IsReplyOf kind a (planned its b options) = (its ≡ kind) × (b ≡ a)
+IsReplyOf kind a (quiet reason) = ⊥
+
+-- the newest offer to the client, if there is one, is released
+abbrev pub IsGivenBack : Asking → Option Row → Type 0
+IsGivenBack q set =
+    (offer : Option ℕ) × IsNewest q.rows (offered_to q) offer
+    × (set ≡ option_map (released_row q) offer)
+
+-- this row is set, and there is no reply, for this reason
+abbrev pub IsSilent : Option Row → Reason → Option Row → Outcome → Type 0
+IsSilent row reason set outcome = (set ≡ row) × (outcome ≡ quiet reason)
+
+-- this row is set, and the reply is of this kind and assigns this address
+abbrev pub Replies : Option Row → PlanKind → ℕ → Option Row → Outcome → Type 0
+Replies row kind a set outcome = (set ≡ row) × IsReplyOf kind a outcome
+
+-- what a message about this address sets and gets, by how it ends
+abbrev pub Makes : Asking → Option ℕ → Ending → Option Row → Outcome → Type 0
+Makes q about ends.Offer set outcome =
+    IsSomeAnd about (λ a. Replies (row_of_offer q a) kinds.Offer a set outcome)
+Makes q about ends.Lease set outcome =
+    IsSomeAnd about (λ a. Replies (Some (leased_row q a)) kinds.Ack a set outcome)
+Makes q about ends.Nak set outcome = Replies None kinds.Nak 0 set outcome
+Makes q about ends.GiveBack set outcome =
+    IsGivenBack q set × (outcome ≡ quiet reasons.OtherServer)
+Makes q about ends.Withhold set outcome =
+    IsSomeAnd about (λ a. IsSilent (Some (declined_row q a)) reasons.Declined set outcome)
+Makes q about ends.Release set outcome =
+    IsSomeAnd about (λ a. IsSilent (Some (released_row q a)) reasons.Released set outcome)
+Makes q about ends.Inform set outcome = Replies None kinds.InformAck 0 set outcome
+Makes q about (ends.Quiet reason) set outcome = IsSilent None reason set outcome
+
+-- the rule for a message of this type
+abbrev pub rule_of : Asking → MessageType → Rule
+rule_of q type = rule_by type (named_server q.message)
+
+-- what a message of this type does, by the address that it is about and how it ends
+pub record Sets (q : Asking) (type : MessageType) (set : Option Row)
+    (outcome : Outcome) : Type 0 where
+  pub address : Option ℕ
+  pub about : IsAbout q (rule_of q type) address
+  pub makes : Makes q address (ending q address (rule_of q type)) set outcome
 
 -- what a message does, by its type
 pub record Does (q : Asking) (set : Option Row) (outcome : Outcome) : Type 0 where

@@ -5,7 +5,7 @@ use Rattle.kd_config.specs.Address.{has_address}
 use Rattle.kd_config.specs.Configuration.{Configuration}
 use Rattle.kd_config.specs.declared.subnet.Subnet.{Subnet}
 use Rattle.kd_rows.specs.Table.{row_at}
-use Rattle.kd_lease.specs.Choice.{Asking, Choice, NoChoice, Rank, fitting_for, has_such, live_row, pooled, reserved_anywhere, same_address, set_later, past_row, reserved_in}
+use Rattle.kd_lease.specs.Choice.{Asking, Rank, fitting_for, has_such, live_row, pooled, reserved_anywhere, same_address, set_later, past_row, reserved_in}
 use Rattle.kd_lease.specs.Choice.Rank.{fresh, expired}
 use Rattle.kd_lease.specs.Rules.{held_at, offered_to}
 use Rattle.kd_lease.specs.declared.choosing.Choosing.{Choosing}
@@ -36,11 +36,6 @@ abbrev pub newer_of : Asking → Sought → Option ℕ → ℕ → Option ℕ
 newer_of q sought None a = if sought_at q sought a then Some a else None
 newer_of q sought (Some b) a =
     if sought_at q sought a && set_later q.rows a b then Some a else Some b
-
--- what is found is the address for the client, or none if there is none
-abbrev pub IsChosen : Asking → Subnet → Option ℕ → Type 0
-IsChosen q s None = NoChoice q s
-IsChosen q s (Some a) = Choice q s a
 
 -- the rank that pools are searched for: addresses that have no row (`true`), or whose rows have
 -- ended

@@ -1,8 +1,7 @@
 ghost use Rattle.std.specs.Prelude.{◌≡◌};
 ghost use Rattle.kd_lease.specs.Choice.Rank.{asked, reserved};
-ghost use Rattle.kd_lease.specs.Rules.{asking};
+ghost use Rattle.kd_lease.specs.Rules.{IsChosen, asking};
 ghost use Rattle.kd_lease.specs.Ranks.{IsRanked};
-ghost use Rattle.kd_lease.specs.Seeking.{IsChosen};
 
 use crate::choosing::Choosing;
 use crate::fitting::{fits_with, is_free, requested_of};

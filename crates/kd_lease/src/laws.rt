@@ -1,6 +1,6 @@
 //! What is true of the rules, whatever the program does. Each law is the contract of a function
 //! that does nothing.
-ghost use Rattle.kd_lease.specs.Laws.{HeldHasNoRank, HeldIsNotGiven, HeldIsNotUsable, NakSetsNone, OneAnswer, OneChange, SetsNow};
+ghost use Rattle.kd_lease.specs.Laws.{EndsAreFounded, EndsDecide, HeldHasNoRank, HeldIsNotGiven, HeldIsNotUsable, NakSetsNone, OneAnswer, OneChange, SetsNow};
 
 /// A row that a message sets has the time of the message as its time of change.
 pub fn sets_now()
@@ -26,6 +26,18 @@ pub fn held_is_not_usable()
 /// Such an address is neither offered nor leased to the client.
 pub fn held_is_not_given()
     ensures { HeldIsNotGiven }
+{}
+
+/// An address is offered only if it is the choice for the client, leased only if the client may be
+/// assigned it or renew it, and given up only if the client holds it.
+pub fn ends_are_founded()
+    ensures { EndsAreFounded }
+{}
+
+/// What a message does is what its end makes: the end that the checks of its rule give for the
+/// address that it is about.
+pub fn ends_decide()
+    ensures { EndsDecide }
 {}
 
 /// The rules have at most one answer: what a message sets and gets follows from the configuration,

@@ -25,10 +25,10 @@ pub struct Question<'a> {
     pub client: &'a [u8],
     /// The time of the message, in seconds.
     pub moment: u64,
+    /// The subnet that serves the message, searched only once.
+    pub subnet: Option<&'a Subnet>,
     // The same table, if it knows the reserved addresses.
     pub(crate) known: Option<&'a Withheld>,
-    // The subnet that serves the message, searched only once.
-    pub(crate) subnet: Option<&'a Subnet>,
     ghost knows: { KnowsReserved config.now rows.now.rows (option_copied known) },
     ghost serves: { option_copied subnet
         ≡ subnet_serving config.now names.now message.now.header },

@@ -1,4 +1,5 @@
 pub mod Giving
 pub mod Inquired
 pub mod Listing
+pub mod Made
 pub mod Testing

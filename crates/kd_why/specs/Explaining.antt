@@ -15,9 +15,7 @@ use Rattle.kd_machine.specs.Held.{base_names}
 use Rattle.kd_options.specs.Joined.{value_of}
 use Rattle.kd_options.specs.Message.{Seen}
 use Rattle.kd_rows.specs.declared.row.Row.{Row}
-use Rattle.kd_why.specs.Checks.{AreChecks, subject_in}
 use Rattle.kd_why.specs.Testing.{AreTested}
-use Rattle.kd_why.specs.declared.checks.Checks.{Checks}
 use Rattle.kd_why.specs.declared.explaining.Explanation.{Explanation}
 
 -- the reservation for the client of a message in a subnet, if there is a subnet
@@ -36,23 +34,6 @@ abbrev pub AreFoundFor : Option (List ℕ) → (List ℕ → Asking) → Option 
 AreFoundFor None asks s found = found ≡ None
 AreFoundFor (Some client) asks s found = AreFoundIn (asks client) s found
 
--- the checks of an address in a subnet, if there is an address
-abbrev pub AreCheckedAt : Asking → Subnet → Option ℕ → Option Checks → Type 0
-AreCheckedAt q s None found = found ≡ None
-AreCheckedAt q s (Some a) None = ⊥
-AreCheckedAt q s (Some a) (Some checks) = AreChecks q s a checks
-
--- the checks of the address that the message is about, if there is a subnet
-abbrev pub AreCheckedIn : Asking → Option Subnet → Option Checks → Type 0
-AreCheckedIn q None found = found ≡ None
-AreCheckedIn q (Some s) found = AreCheckedAt q s (subject_in q.message) found
-
--- the same for a client, if the message has one
-abbrev pub AreCheckedFor : Option (List ℕ) → (List ℕ → Asking) → Option Subnet → Option Checks
-    → Type 0
-AreCheckedFor None asks s found = found ≡ None
-AreCheckedFor (Some client) asks s found = AreCheckedIn (asks client) s found
-
 -- an explanation of a message at a time, over a configuration and rows: its parts are those of the
 -- rules
 pub record Explains (config : Configuration) (rows : List Row) (m : Seen) (now : ℕ)
@@ -65,7 +46,5 @@ pub record Explains (config : Configuration) (rows : List Row) (m : Seen) (now :
   pub reservation : IsReservedIn m (option_copied e.subnet) (option_copied e.reservation)
   pub ranks : AreFoundFor (client_identity m) (asked_for config rows e.names m now)
       (option_copied e.subnet) e.ranks
-  pub checks : AreCheckedFor (client_identity m) (asked_for config rows e.names m now)
-      (option_copied e.subnet) e.checks
   pub decides : Decides config rows e.names m now e.decision.row (outcome_in e.decision.answer)
   pub answer : IsAnswerTo m e.decision.answer

@@ -1,8 +1,8 @@
 pub mod CheckLines
-pub mod Checks
 pub mod Explaining
 pub mod FoundLines
 pub mod Inquiring
+pub mod Laws
 pub mod Origins
 pub mod OutcomeLines
 pub mod Saying

@@ -1,5 +1,5 @@
 -- The text of an explanation: the lines about each part, and the line at its end.
-use Rattle.std.specs.Prelude.{◌≡◌, ◌≢◌, ◌++◌, ◌^◌, ◌<◌, ◌≤◌, ◌⊎◌, ℕ, List, codes, decimal, option_copied}
+use Rattle.std.specs.Prelude.{◌≡◌, ◌≢◌, ◌++◌, ◌^◌, ◌<◌, ◌≤◌, ◌⊎◌, ℕ, List, codes, decimal}
 use Rattle.kd_config.specs.Configuration.{Configuration}
 use Rattle.kd_event.specs.declared.event.Event.{Event}
 use Rattle.kd_event.specs.declared.event.Handled.{Handled}
@@ -13,28 +13,27 @@ use Rattle.kd_replay.specs.declared.fault.ServeFault.{ServeFault}
 use Rattle.kd_replay.specs.declared.fault.ServeFault.TheVariants as faults
 use Rattle.kd_rows.specs.declared.row.Row.{Row}
 use Rattle.kd_server.specs.Trial.{Trying, WouldAnswer}
-use Rattle.kd_why.specs.CheckLines.{checks_by, client_lines}
+use Rattle.kd_why.specs.CheckLines.{TellsChecks, TellsClient}
 use Rattle.kd_why.specs.Explaining.{Explains}
 use Rattle.kd_why.specs.FoundLines.{found_text}
 use Rattle.kd_why.specs.OutcomeLines.{IsEndText, set_line}
 use Rattle.kd_why.specs.declared.explaining.Explanation.{Explanation}
 
--- the lines of the checks of a message at a time over rows, from an explanation of it
-abbrev pub checked_text : Configuration → List Row → Seen → ℕ → Explanation → List ℕ
-checked_text config rows m now e =
-    checks_by e.decision.answer m
-    (client_lines (asked_for config rows e.names m now) (option_copied e.subnet) e.decision.row
-    e.checks e.client)
+-- a text tells the checks of a message at a time over rows, from an explanation of it
+abbrev pub IsCheckedText : Configuration → List Row → Seen → ℕ → Explanation → List ℕ → Type 0
+IsCheckedText config rows m now e text =
+    TellsChecks e.decision.answer m
+    (TellsClient (asked_for config rows e.names m now) e.decision.row e.client) text
 
 -- a text is that of an explanation of a message at a time: what the message is and what is found
 -- for it, what is checked, how it ends, and the row that it sets
 pub record IsTextOf (config : Configuration) (rows : List Row) (m : Seen) (now : ℕ)
     (e : Explanation) (text : List ℕ) : Type 0 where
+  pub checked : List ℕ
+  pub tells : IsCheckedText config rows m now e checked
   pub ends : List ℕ
   pub outcome : IsEndText config m e e.decision.answer ends
-  pub is : text
-      ≡ found_text config m now e
-      ++ (checked_text config rows m now e ++ (ends ++ set_line e.decision.row))
+  pub is : text ≡ found_text config m now e ++ (checked ++ (ends ++ set_line e.decision.row))
 
 -- a text explains a message at a time, over a configuration and rows
 pub record IsExplanation (config : Configuration) (rows : List Row) (m : Seen) (now : ℕ)

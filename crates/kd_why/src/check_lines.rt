@@ -1,54 +1,35 @@
-ghost use Rattle.std.specs.Prelude.{◌≡◌, ◌++◌, OnOk, option_copied, string_bytes};
+ghost use Rattle.std.specs.Prelude.{◌≡◌, ◌++◌, ℕ, List, OnOk, codes, string_bytes};
 ghost use Rattle.kd_lease.specs.Change.{asked_for};
-ghost use Rattle.kd_lease.specs.Rules.{asking, other_server};
-ghost use Rattle.kd_why.specs.CheckLines.{checks_by, client_lines, giving_up_lines, holding_at, holding_lines};
-ghost use Rattle.kd_why.specs.CheckLines.{inform_lines, rule_lines, served_at};
+ghost use Rattle.kd_lease.specs.Rules.{asking};
+ghost use Rattle.kd_why.specs.CheckLines.{TellsClient, TellsRule, rule_line, end_line, made_lines};
 ghost use Rattle.kd_why.specs.FoundLines.{reaches_rule};
+ghost use Rattle.kd_why.specs.Saying.{IsCheckedText};
 
-use crate::checks::{Checks, subject_of};
 use crate::finding_lines::{
-    put_address_found, put_held, put_row_found, put_sender, put_server, put_subnet_found,
+    put_address_found, put_client_found, put_fits, put_free, put_held, put_offer, put_owner,
+    put_prefix_found, put_row_found, put_sender, put_server, put_subnet_found,
 };
-use crate::request_lines::put_request;
 use crate::text::Scene;
-use kd_config::Subnet;
 use kd_event::Reason;
-use kd_lease::{Ground, Plan, Question, is_held_at, server_of};
-use kd_options::MessageType;
+use kd_lease::{Check, Ending, Ground, Line, Matter, Plan, Question, ending_of, holds, server_of};
 use kd_rows::Row;
 use kd_wire::Bytes;
 use std::alloc::{AllocError, Global};
 
-// What the checks are made on: the question put to the rules, the subnet that serves the message,
-// the row that it sets, and the checks of its address.
-#[derive(Clone, Copy)]
-pub(crate) struct Matter<'a> {
-    pub(crate) alloc: Global,
-    pub(crate) question: Question<'a>,
-    pub(crate) subnet: Option<&'a Subnet>,
-    pub(crate) set: &'a Option<Row>,
-    pub(crate) checks: Option<Checks>,
-}
-
 // Prints a line for each check that the rules make, up to the one at which the message ends (RFC
 // 2131 section 4.3). The checks before its type have a line only if the message ends there.
 pub(crate) fn put_checks(out: &mut String, scene: &Scene<'_>) -> Result<(), AllocError>
-    ensures { OnOk result (string_bytes out.new ≡ string_bytes out.old
-        ++ checks_by scene.now.explanation.now.decision.answer scene.now.message.now
-        (client_lines (asked_for scene.now.config.now scene.now.rows.now.rows
-        scene.now.explanation.now.names scene.now.message.now scene.now.moment)
-        (option_copied scene.now.explanation.now.subnet) scene.now.explanation.now.decision.row
-        scene.now.explanation.now.checks scene.now.explanation.now.client)) }
+    ensures { OnOk result ((text : List ℕ)
+        × IsCheckedText scene.now.config.now scene.now.rows.now.rows scene.now.message.now
+        scene.now.moment scene.now.explanation.now text
+        × (string_bytes out.new ≡ string_bytes out.old ++ text)) }
 {
     match &scene.explanation.decision.answer {
         Err(Reason::NotRequest) => put_sender(out, scene.message),
         Err(Reason::NoIdentity) => out.push_str("check identity: none\n"),
         Err(Reason::DropClass) => out.push_str("check class: the client is in DROP\n"),
-        Err(Reason::ReplyTooLong) => {
-            put_rule(out, scene)?;
-            out.push_str("check room: too small for the options that the reply must have\n")
-        }
-        _ => put_rule(out, scene),
+        Err(Reason::ReplyTooLong) => put_room(out, scene),
+        _ => put_client(out, scene),
     }
 }
 
@@ -64,136 +45,124 @@ pub(crate) fn is_ruled(answer: &Result<Plan, Reason>) -> bool
     }
 }
 
-// Prints the checks of a client's rule.
-fn put_rule(out: &mut String, scene: &Scene<'_>) -> Result<(), AllocError>
-    ensures { OnOk result (string_bytes out.new ≡ string_bytes out.old
-        ++ client_lines (asked_for scene.now.config.now scene.now.rows.now.rows
+// Prints the same of a message whose reply is too long, with a line for its room.
+fn put_room(out: &mut String, scene: &Scene<'_>) -> Result<(), AllocError>
+    ensures { OnOk result ((text : List ℕ)
+        × ((rule : List ℕ) × TellsClient (asked_for scene.now.config.now scene.now.rows.now.rows
         scene.now.explanation.now.names scene.now.message.now scene.now.moment)
-        (option_copied scene.now.explanation.now.subnet) scene.now.explanation.now.decision.row
-        scene.now.explanation.now.checks scene.now.explanation.now.client) }
+        scene.now.explanation.now.decision.row scene.now.explanation.now.client rule
+        × (text ≡ rule ++ codes "check room: too small for the options that the reply must have\n"))
+        × (string_bytes out.new ≡ string_bytes out.old ++ text)) }
+{
+    put_client(out, scene)?;
+    out.push_str("check room: too small for the options that the reply must have\n")?;
+    Ok(())
+}
+
+// Prints what is checked by the rule of a message that has a client.
+fn put_client(out: &mut String, scene: &Scene<'_>) -> Result<(), AllocError>
+    ensures { OnOk result ((text : List ℕ)
+        × TellsClient (asked_for scene.now.config.now scene.now.rows.now.rows
+        scene.now.explanation.now.names scene.now.message.now scene.now.moment)
+        scene.now.explanation.now.decision.row scene.now.explanation.now.client text
+        × (string_bytes out.new ≡ string_bytes out.old ++ text)) }
 {
     match &scene.explanation.client {
-        Some(client) => put_by_type(out, &matter_of(scene, client)),
+        Some(client) => put_asked(out, scene, client),
         None => Ok(()),
     }
 }
 
-fn matter_of<'a>(scene: &Scene<'a>, client: &'a Bytes) -> Matter<'a>
-    ensures question { asking result.question
-        ≡ asked_for scene.now.config.now scene.now.rows.now.rows scene.now.explanation.now.names
-        scene.now.message.now scene.now.moment client.now }
-    ensures subnet { option_copied result.subnet ≡ option_copied scene.now.explanation.now.subnet }
-    ensures set { result.set.now ≡ scene.now.explanation.now.decision.row }
-    ensures checks { result.checks ≡ scene.now.explanation.now.checks }
+fn put_asked(out: &mut String, scene: &Scene<'_>, client: &Bytes) -> Result<(), AllocError>
+    ensures { OnOk result ((text : List ℕ)
+        × TellsRule (asked_for scene.now.config.now scene.now.rows.now.rows
+        scene.now.explanation.now.names scene.now.message.now scene.now.moment client.now)
+        scene.now.explanation.now.decision.row text
+        × (string_bytes out.new ≡ string_bytes out.old ++ text)) }
 {
-    Matter {
-        alloc: scene.alloc,
-        question: Question::new(
-            Ground::of(scene.config, scene.rows),
-            &scene.explanation.names,
-            scene.message,
-            client.as_slice(),
-            scene.moment,
-        ),
-        subnet: scene.explanation.subnet,
-        set: &scene.explanation.decision.row,
-        checks: scene.explanation.checks,
-    }
+    let over = Ground::of(scene.config, scene.rows);
+    let names = &scene.explanation.names;
+    let question = Question::new(over, names, scene.message, client.as_slice(), scene.moment);
+    put_rule(scene.alloc, out, &question, &scene.explanation.decision.row)
 }
 
-fn put_by_type(out: &mut String, matter: &Matter<'_>) -> Result<(), AllocError>
-    ensures { OnOk result (string_bytes out.new ≡ string_bytes out.old
-        ++ rule_lines (asking matter.now.question) (option_copied matter.now.subnet)
-        matter.now.set.now matter.now.checks) }
+fn put_rule(
+    alloc: Global,
+    out: &mut String,
+    question: &Question<'_>,
+    set: &Option<Row>,
+) -> Result<(), AllocError>
+    ensures { OnOk result ((text : List ℕ) × TellsRule (asking question.now) set.now text
+        × (string_bytes out.new ≡ string_bytes out.old ++ text)) }
 {
-    match matter.question.message.kind() {
-        MessageType::Discover => put_subnet_found(out, matter.subnet),
-        MessageType::Request => put_request(out, matter),
-        MessageType::Decline => put_giving_up(matter.alloc, out, &matter.question),
-        MessageType::Release => put_giving_up(matter.alloc, out, &matter.question),
-        MessageType::Inform => put_inform(out, &matter.question, matter.subnet),
+    let matter = Matter::new(question);
+    put_made(alloc, out, &matter, matter.rule.checks())?;
+    put_end_of(out, ending_of(&matter), set)
+}
+
+// Prints the lines of the checks that are made of a message.
+#[tactic(auto, unfolding(crate::specs::CheckLines::made_lines))]
+fn put_made(
+    alloc: Global,
+    out: &mut String,
+    matter: &Matter<'_>,
+    lines: &[Line],
+) -> Result<(), AllocError>
+    ensures { OnOk result (string_bytes out.new ≡ string_bytes out.old
+        ++ made_lines (asking matter.now.question.now) matter.now.rule matter.now.address
+        lines.now) }
+{
+    let mut left = lines;
+    while let [line, rest @ ..] = left {
+        put_check(alloc, out, matter, line.0)?;
+        if !holds(matter, line.0) {
+            return Ok(());
+        }
+        left = rest;
+    }
+    Ok(())
+}
+
+// Prints the offer that is given back, if a message ends so.
+fn put_end_of(out: &mut String, ending: Ending, set: &Option<Row>) -> Result<(), AllocError>
+    ensures { OnOk result (string_bytes out.new ≡ string_bytes out.old ++ end_line ending set.now) }
+{
+    match ending {
+        Ending::GiveBack => put_offer(out, set),
         _ => Ok(()),
     }
 }
 
-// Prints the checks of a DECLINE or a RELEASE (RFC 2131 sections 4.3.3 and 4.3.4).
-#[tactic(auto, unfolding(crate::specs::CheckLines::giving_up_lines))]
-fn put_giving_up(alloc: Global, out: &mut String, question: &Question<'_>) -> Result<(), AllocError>
-    ensures { OnOk result (string_bytes out.new
-        ≡ string_bytes out.old ++ giving_up_lines (asking question.now)) }
-{
-    let named = server_of(question.message);
-    put_server(out, question.config.server(), named)?;
-    if is_other(question.config.server(), named) {
-        Ok(())
-    } else {
-        put_holding(alloc, out, question)
-    }
-}
-
-// Reports whether a message names another server.
-pub(crate) fn is_other(server: u32, named: Option<u32>) -> bool
-    ensures { result ≡ other_server server named }
-{
-    match named {
-        Some(named) => named != server,
-        None => false,
-    }
-}
-
-#[tactic(auto, unfolding(crate::specs::CheckLines::holding_lines))]
-fn put_holding(alloc: Global, out: &mut String, question: &Question<'_>) -> Result<(), AllocError>
-    ensures { OnOk result (string_bytes out.new
-        ≡ string_bytes out.old ++ holding_lines (asking question.now)) }
-{
-    let subject = subject_of(question.message);
-    put_address_found(out, question.message, subject)?;
-    put_holding_at(alloc, out, question, subject)
-}
-
-fn put_holding_at(
+// Prints the line of a check.
+fn put_check(
     alloc: Global,
     out: &mut String,
-    question: &Question<'_>,
-    subject: Option<u32>,
-) -> Result<(), AllocError>
-    ensures { OnOk result (string_bytes out.new
-        ≡ string_bytes out.old ++ holding_at (asking question.now) subject) }
-{
-    match subject {
-        Some(address) => {
-            put_row_found(alloc, out, question, address)?;
-            put_held(out, is_held_at(question, address))
-        }
-        None => Ok(()),
-    }
-}
-
-// Prints the checks of an INFORM (RFC 2131 section 4.3.5).
-#[tactic(auto, unfolding(crate::specs::CheckLines::inform_lines))]
-fn put_inform(
-    out: &mut String,
-    question: &Question<'_>,
-    subnet: Option<&Subnet>,
+    matter: &Matter<'_>,
+    check: Check,
 ) -> Result<(), AllocError>
     ensures { OnOk result (string_bytes out.new ≡ string_bytes out.old
-        ++ inform_lines (asking question.now) (option_copied subnet.entry)) }
+        ++ rule_line (asking matter.now.question.now) matter.now.rule matter.now.address check) }
 {
-    let subject = subject_of(question.message);
-    put_address_found(out, question.message, subject)?;
-    put_served_at(out, subnet, subject)
-}
-
-fn put_served_at(
-    out: &mut String,
-    subnet: Option<&Subnet>,
-    subject: Option<u32>,
-) -> Result<(), AllocError>
-    ensures { OnOk result (string_bytes out.new
-        ≡ string_bytes out.old ++ served_at (option_copied subnet.entry) subject) }
-{
-    match subject {
-        Some(_) => put_subnet_found(out, subnet),
-        None => Ok(()),
+    let Matter { question, .. } = *matter;
+    match check {
+        Check::Server => put_server(out, question.config.server(), server_of(question.message)),
+        Check::Address => put_address_found(out, matter),
+        Check::Choice => Ok(()),
+        Check::Subnet => put_subnet_found(out, question.subnet),
+        Check::Prefix => put_prefix_found(out, holds(matter, check)),
+        Check::Client => put_client_found(out, holds(matter, check)),
+        Check::Owner => {
+            put_row_found(alloc, out, matter)?;
+            put_owner(out, holds(matter, check))
+        }
+        Check::Fits => put_fits(out, matter, holds(matter, check)),
+        Check::Free => {
+            put_row_found(alloc, out, matter)?;
+            put_free(out, holds(matter, check))
+        }
+        Check::Held => {
+            put_row_found(alloc, out, matter)?;
+            put_held(out, holds(matter, check))
+        }
     }
 }

@@ -1,9 +1,8 @@
 ghost use Rattle.std.specs.Prelude.{◌≡◌, ◌<◌, ◌≤◌, ◌^◌, IfOk, None, length, option_copied};
 ghost use Rattle.kd_lease.specs.Change.{asked_for};
 ghost use Rattle.kd_lease.specs.Rules.{asking};
-ghost use Rattle.kd_why.specs.Explaining.{AreCheckedAt, AreCheckedFor, AreCheckedIn, AreFoundFor, AreFoundIn, Explains, IsReservedIn};
+ghost use Rattle.kd_why.specs.Explaining.{AreFoundFor, AreFoundIn, Explains, IsReservedIn};
 
-use crate::checks::{Checks, checks_of, subject_of};
 use crate::classes::{Trace, trace_classes};
 use kd_config::{Config, Reservation, Subnet};
 use kd_lease::{
@@ -31,9 +30,6 @@ pub struct Explanation<'a> {
     pub reservation: Option<&'a Reservation>,
     /// The first address of each rank, if a subnet serves the message and it has a client.
     pub ranks: Option<Ranks>,
-    /// The checks of the address that the message is about, if there is one, a subnet serves the
-    /// message and it has a client.
-    pub checks: Option<Checks>,
     /// The row that it sets, and the answer to it.
     pub decision: Decision,
 }
@@ -65,7 +61,6 @@ pub fn explain<'a>(
         moment,
     };
     let ranks = found_for(asked, &names, &client, subnet);
-    let checks = checked_for(asked, &names, &client, subnet);
     let decision = decide(alloc, config, rows, message, &names, moment)?;
     Ok(Explanation {
         client,
@@ -74,7 +69,6 @@ pub fn explain<'a>(
         subnet,
         reservation,
         ranks,
-        checks,
         decision,
     })
 }
@@ -135,43 +129,6 @@ fn found_in(question: &Question<'_>, subnet: Option<&Subnet>) -> Option<Ranks>
 {
     match subnet {
         Some(subnet) => Some(ranks_of(question, subnet)),
-        None => None,
-    }
-}
-
-// Checks the address that a message is about, for a client in a subnet, if there are both.
-fn checked_for(
-    asked: Asked<'_>,
-    names: &Held,
-    client: &Option<Bytes>,
-    subnet: Option<&Subnet>,
-) -> Option<Checks>
-    ensures { AreCheckedFor client.now (asked_for asked.entry.config.now asked.entry.rows.now.rows
-        names.now asked.entry.message.now asked.entry.moment)
-        (option_copied subnet.entry) result }
-{
-    match client {
-        Some(client) => checked_in(&question_of(asked, names, client), subnet),
-        None => None,
-    }
-}
-
-// Does the same in a subnet, if there is one.
-fn checked_in(question: &Question<'_>, subnet: Option<&Subnet>) -> Option<Checks>
-    ensures { AreCheckedIn (asking question.now) (option_copied subnet.entry) result }
-{
-    match subnet {
-        Some(subnet) => checked_at(question, subnet, subject_of(question.message)),
-        None => None,
-    }
-}
-
-// Does the same for an address, if there is one.
-fn checked_at(question: &Question<'_>, subnet: &Subnet, subject: Option<u32>) -> Option<Checks>
-    ensures { AreCheckedAt (asking question.now) subnet.now subject result }
-{
-    match subject {
-        Some(address) => Some(checks_of(question, subnet, address)),
         None => None,
     }
 }

@@ -1,16 +1,16 @@
 ghost use Rattle.std.specs.Prelude.{◌≡◌, ◌++◌, OnOk, Some, codes, option_copied, string_bytes};
-ghost use Rattle.kd_lease.specs.Rules.{asking};
+ghost use Rattle.kd_lease.specs.Choice.{address_reserved, pooled, reserved_anywhere, same_address};
+ghost use Rattle.kd_lease.specs.Rules.{asking, passes, passes_in, serving_subnet};
 ghost use Rattle.kd_replay.specs.Text.{address_text};
 ghost use Rattle.kd_server.specs.Leases.{word_of_live};
-ghost use Rattle.kd_why.specs.CheckLines.{address_line, fits_line, free_line, held_line, known_line, offer_line, owner_line};
-ghost use Rattle.kd_why.specs.CheckLines.{pool_word, prefix_line, request_source, reserved_word, row_line_at, row_words};
-ghost use Rattle.kd_why.specs.CheckLines.{sender_line, served_line, served_word, server_line, subject_source, which_word};
+ghost use Rattle.kd_why.specs.CheckLines.{address_line, address_source, fit_words, fits_line, free_line, held_line, known_line, offer_line, owner_line};
+ghost use Rattle.kd_why.specs.CheckLines.{place_words, pool_word, prefix_line, renewed_source, reserved_word, row_line_at, row_words};
+ghost use Rattle.kd_why.specs.CheckLines.{sender_line, served_line, served_word, server_line, which_word};
 
-use crate::checks::Checks;
 use crate::words::{type_name, yes_or_no};
 use kd_config::Subnet;
-use kd_lease::{Question, server_of};
-use kd_options::{Message, MessageType};
+use kd_lease::{Matter, Question, Rule, in_pools, is_reserved, reservation_of};
+use kd_options::Message;
 use kd_replay::{put_address, put_prefix};
 use kd_rows::Row;
 use kd_server::put_row;
@@ -83,16 +83,19 @@ fn put_offer_at(out: &mut String, address: u32) -> Result<(), AllocError>
 }
 
 // Prints the address that a message is about, and the field or option that names it.
-pub(crate) fn put_address_found(
-    out: &mut String,
-    message: &Message<'_>,
-    address: Option<u32>,
-) -> Result<(), AllocError>
-    ensures { OnOk result (string_bytes out.new
-        ≡ string_bytes out.old ++ address_line address (subject_source message.now)) }
+pub(crate) fn put_address_found(out: &mut String, matter: &Matter<'_>) -> Result<(), AllocError>
+    ensures { OnOk result (string_bytes out.new ≡ string_bytes out.old
+        ++ address_line matter.now.address
+        (address_source matter.now.rule matter.now.question.now.message.now)) }
 {
-    match address {
-        Some(address) => put_address_from(out, address, address_source(message)),
+    match matter.address {
+        Some(address) => {
+            put_address_from(
+                out,
+                address,
+                source_of(matter.rule, matter.question.message),
+            )
+        }
         None => out.push_str("check address: none\n"),
     }
 }
@@ -109,24 +112,24 @@ fn put_address_from(out: &mut String, address: u32, source: &str) -> Result<(), 
     out.push_str("\n")
 }
 
-fn address_source(message: &Message<'_>) -> &'static str
-    ensures { result.now ≡ subject_source message.now }
+fn source_of(rule: Rule, message: &Message<'_>) -> &'static str
+    ensures { result.now ≡ address_source rule message.now }
 {
-    match message.kind() {
-        MessageType::Request => source_of_request(message),
-        MessageType::Release => "ciaddr",
-        MessageType::Inform => "ciaddr",
+    match rule {
+        Rule::Renew => source_of_renewed(message),
+        Rule::Release => "ciaddr",
+        Rule::Inform => "ciaddr",
         _ => "option 50",
     }
 }
 
-fn source_of_request(message: &Message<'_>) -> &'static str
-    ensures { result.now ≡ request_source message.now }
+fn source_of_renewed(message: &Message<'_>) -> &'static str
+    ensures { result.now ≡ renewed_source message.now }
 {
-    if server_of(message).is_none() && message.header().ciaddr != 0 {
-        "ciaddr"
-    } else {
+    if message.header().ciaddr == 0 {
         "option 50"
+    } else {
+        "ciaddr"
     }
 }
 
@@ -172,15 +175,29 @@ pub(crate) fn put_client_found(out: &mut String, is_known: bool) -> Result<(), A
     }
 }
 
-// Prints the row of an address, as `kdhcp leases` does.
+// Prints the row of the address that a message is about, as `kdhcp leases` does.
 pub(crate) fn put_row_found(
+    alloc: Global,
+    out: &mut String,
+    matter: &Matter<'_>,
+) -> Result<(), AllocError>
+    ensures { OnOk result (string_bytes out.new ≡ string_bytes out.old
+        ++ row_line_at (asking matter.now.question.now) matter.now.address) }
+{
+    match matter.address {
+        Some(address) => put_row_line(alloc, out, matter.question, address),
+        None => Ok(()),
+    }
+}
+
+fn put_row_line(
     alloc: Global,
     out: &mut String,
     question: &Question<'_>,
     address: u32,
 ) -> Result<(), AllocError>
     ensures { OnOk result (string_bytes out.new ≡ string_bytes out.old
-        ++ row_line_at (asking question.now) address) }
+        ++ row_line_at (asking question.now) (Some address)) }
 {
     out.push_str("check row: ")?;
     put_row_of(alloc, out, question.rows.get(address), question.moment)
@@ -233,38 +250,104 @@ pub(crate) fn put_owner(out: &mut String, is_own: bool) -> Result<(), AllocError
 
 // Prints whether an address fits: where it is, and whom it is reserved for.
 #[tactic(auto, unfolding(crate::specs::CheckLines::fits_line))]
-pub(crate) fn put_fits(out: &mut String, checks: &Checks) -> Result<(), AllocError>
-    ensures { OnOk result (string_bytes out.new ≡ string_bytes out.old ++ fits_line checks.now) }
+pub(crate) fn put_fits(
+    out: &mut String,
+    matter: &Matter<'_>,
+    is_fit: bool,
+) -> Result<(), AllocError>
+    ensures { OnOk result (string_bytes out.new ≡ string_bytes out.old
+        ++ fits_line is_fit (asking matter.now.question.now) matter.now.address) }
 {
-    out.push_str("check fits: ")?;
-    out.push_str(yes_or_no(checks.fits))?;
-    out.push_str(", ")?;
-    out.push_str(pool_phrase(checks))?;
-    out.push_str(", ")?;
-    out.push_str(reserved_phrase(checks))?;
+    put_fit(out, is_fit)?;
+    put_places(out, matter.question, matter.address)?;
     out.push_str("\n")?;
     Ok(())
 }
 
-fn pool_phrase(checks: &Checks) -> &'static str
-    ensures { result.now ≡ pool_word checks.now }
+fn put_fit(out: &mut String, is_fit: bool) -> Result<(), AllocError>
+    ensures { OnOk result (string_bytes out.new ≡ string_bytes out.old ++ fit_words is_fit) }
 {
-    if checks.in_pools {
-        "in a pool"
-    } else {
-        "in no pool"
+    out.push_str("check fits: ")?;
+    out.push_str(yes_or_no(is_fit))?;
+    out.push_str(", ")?;
+    Ok(())
+}
+
+// Prints whether a pool contains the address, and whom it is reserved for.
+fn put_places(
+    out: &mut String,
+    question: &Question<'_>,
+    address: Option<u32>,
+) -> Result<(), AllocError>
+    ensures { let q = asking question.now in
+        OnOk result (string_bytes out.new
+        ≡ string_bytes out.old ++ place_words q (serving_subnet q) address) }
+{
+    out.push_str(pool_phrase(is_in_pool(question, address)))?;
+    out.push_str(", ")?;
+    out.push_str(reserved_phrase(question, address))?;
+    Ok(())
+}
+
+fn pool_phrase(is_in: bool) -> &'static str
+    ensures { result.now ≡ pool_word is_in }
+{
+    if is_in { "in a pool" } else { "in no pool" }
+}
+
+fn is_in_pool(question: &Question<'_>, address: Option<u32>) -> bool
+    ensures { result ≡ passes_in pooled (serving_subnet (asking question.now)) address }
+{
+    match (question.subnet, address) {
+        (Some(subnet), Some(address)) => in_pools(subnet, address),
+        _ => false,
     }
 }
 
-fn reserved_phrase(checks: &Checks) -> &'static str
-    ensures { result.now ≡ reserved_word checks.now }
+fn reserved_phrase(question: &Question<'_>, address: Option<u32>) -> &'static str
+    ensures { let q = asking question.now in
+        result.now ≡ reserved_word
+        (passes_in (λ s a. same_address (address_reserved q.message s) a) (serving_subnet q)
+        address)
+        (passes (reserved_anywhere q.config) address) }
 {
-    if checks.reserved_for_client {
+    if is_its(question, address) {
         "reserved for the client"
-    } else if checks.reserved {
+    } else if is_withheld(question, address) {
         "reserved otherwise"
     } else {
         "not reserved"
+    }
+}
+
+// Reports whether an address is reserved for the client in the subnet that serves its message.
+fn is_its(question: &Question<'_>, address: Option<u32>) -> bool
+    ensures { let q = asking question.now in
+        result ≡ passes_in (λ s a. same_address (address_reserved q.message s) a)
+        (serving_subnet q) address }
+{
+    match (question.subnet, address) {
+        (Some(subnet), Some(address)) => is_reserved_for(question.message, subnet, address),
+        _ => false,
+    }
+}
+
+fn is_reserved_for(message: &Message<'_>, subnet: &Subnet, address: u32) -> bool
+    ensures { result ≡ same_address (address_reserved message.now subnet.now) address }
+{
+    match reservation_of(message, subnet) {
+        Some(reservation) => reservation.address == address,
+        None => false,
+    }
+}
+
+// Reports whether an address is reserved, for anybody.
+fn is_withheld(question: &Question<'_>, address: Option<u32>) -> bool
+    ensures { result ≡ passes (reserved_anywhere (asking question.now).config) address }
+{
+    match address {
+        Some(address) => is_reserved(question.config, address),
+        None => false,
     }
 }
 

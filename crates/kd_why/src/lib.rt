@@ -9,24 +9,22 @@
 #![tactic(auto)]
 
 mod check_lines;
-mod checks;
 mod class_lines;
 mod classes;
 mod explaining;
 mod finding_lines;
 mod inquiry;
+pub mod laws;
 mod message_lines;
 mod option_lines;
 mod origins;
 mod outcome_lines;
 mod rank_lines;
-mod request_lines;
 mod subnet_lines;
 mod text;
 mod why;
 mod words;
 
-pub use checks::{Checks, checks_of, subject_of};
 pub use classes::{Trace, trace_classes};
 pub use explaining::{Explanation, explain};
 pub use inquiry::why_line;

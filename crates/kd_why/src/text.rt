@@ -39,7 +39,8 @@ pub(crate) fn put_explanation(out: &mut String, scene: &Scene<'_>) -> Result<(),
     put_found(out, scene)?;
     put_checks(out, scene)?;
     put_end(out, scene)?;
-    put_row_set(scene.alloc, out, &scene.explanation.decision.row)
+    put_row_set(scene.alloc, out, &scene.explanation.decision.row)?;
+    Ok(())
 }
 
 // Prints what is found for a message: its classes, its place, its subnet, its reservation and its

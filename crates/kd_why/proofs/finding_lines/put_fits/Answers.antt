@@ -1,20 +1,12 @@
-use Rattle.std.proofs.Common.{append_assoc}
-use Rattle.kd_why.specs.CheckLines.{fits_line}
+use Rattle.std.specs.Prelude.{codes, string_bytes}
+use Rattle.kd_lease.specs.Rules.{asking, serving_subnet}
+use Rattle.kd_why.specs.CheckLines.{fit_words, fits_line, place_words}
+use Rattle.kd_why.proofs.Listing.{three_put}
 use Rattle.kd_why.proofs.finding_lines.put_fits.Goals as goal
 
 pub returns : goal.returns
 unfolding fits_line
 returns c =
-    rw (
-      c.in_ok-push_str-7.ensures.bytes,
-      c.in_ok-push_str-6.ensures.bytes,
-      c.reserved_phrase.ensures,
-      c.in_ok-push_str-5.ensures.bytes,
-      c.in_ok-push_str-4.ensures.bytes,
-      c.pool_phrase.ensures,
-      c.in_ok-push_str-3.ensures.bytes,
-      c.in_ok-push_str-2.ensures.bytes,
-      c.yes_or_no.ensures,
-      c.in_ok-push_str.ensures.bytes,
-    )
-    (simp append_assoc)
+    let q = asking c.args.matter.now.question.now in
+    three_put (string_bytes c.args.out.now) (fit_words c.args.is_fit) (place_words q (serving_subnet q) c.args.matter.now.address) (codes "\n") _ _ _
+    c.in_ok-put_fit.ensures c.in_ok-put_places.ensures c.in_ok-push_str.ensures.bytes

@@ -1,5 +1,0 @@
-use Rattle.kd_why.proofs.Listing.{two_put}
-use Rattle.kd_why.proofs.request_lines.put_free_at.Goals as goal
-
-pub returns : goal.returns
-returns c = two_put _ _ _ _ _ c.in_ok-put_subject_row.ensures c.in_ok-put_free.ensures
