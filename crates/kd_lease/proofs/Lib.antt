@@ -9,7 +9,6 @@ pub mod Passing
 pub mod Pools
 pub mod Records
 pub mod Reserved
-pub mod Same
 pub mod Single
 pub mod Valuing
 pub mod Withheld

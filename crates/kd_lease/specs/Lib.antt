@@ -1,5 +1,4 @@
 pub mod Aging
-pub mod Cases
 pub mod Change
 pub mod Choice
 pub mod Client
