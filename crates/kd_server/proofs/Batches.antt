@@ -1,11 +1,8 @@
 -- Events that are handled together: the rows that they set, and how the batch ends.
 use Rattle.std.proofs.Common.{◌≡◌, ◌≢◌, ◌⊎◌, inl, inr, ℕ, List, [], ◌∷◌, Option, Some, None, false, is_some, drop, take, refl, sym, subst, ◌∙◌}
 use Rattle.std.proofs.lemmas.List.{take-append-drop}
-use Rattle.kd_config.specs.Configuration.{Configuration}
 use Rattle.kd_event.specs.declared.event.Event.{Event}
 use Rattle.kd_event.specs.declared.event.Handled.{Handled}
-use Rattle.kd_event.specs.declared.event.Response.{Response}
-use Rattle.kd_event.specs.declared.ports.Ports.{Ports}
 use Rattle.kd_keeps.specs.declared.fault.StoreFault.{StoreFault}
 use Rattle.kd_keeps.specs.declared.keeps.Keeps.{Ghosts}
 use Rattle.kd_lease.specs.Change.{after}
@@ -15,7 +12,6 @@ use Rattle.kd_replay.specs.declared.fault.ServeFault.TheVariants as faults
 use Rattle.kd_rows.specs.declared.row.Row.{Row}
 use Rattle.kd_server.specs.Batch.{Batched, IsChangedBy, IsCommitted, LeavesOut}
 use Rattle.kd_server.specs.Keeping.{Keeping, StepsTo}
-use Rattle.kd_server.specs.Turn.{IsTurn}
 use Rattle.kd_replay.proofs.Histories.{runs_none}
 
 -- an event that is not handled leaves the rows
@@ -55,12 +51,6 @@ module _ (steps : List Row → Event → Handled → List Row → Type 0) (event
   pub moved_or_none : (rows set : List Row) → Moved rows set → (set ≡ []) ⊎ IsChangedBy steps events first
   moved_or_none rows set (inl none) = inl none.0
   moved_or_none rows set (inr changed) = inr changed
-
--- what a datagram does over a configuration and rows, it does over equal ones
-pub turn_over : (c config : Configuration) (ports : Ports) (r rows : List Row) (now : ℕ) (bytes : List ℕ) (row : Option Row) (response : Response) → c ≡ config → r ≡ rows
-    → IsTurn c ports r now bytes row response → IsTurn config ports rows now bytes row response
-turn_over c config ports r rows now bytes row response one two turn =
-    subst (λ (k : Configuration). IsTurn k ports rows now bytes row response) one (subst (λ (l : List Row). IsTurn c ports l now bytes row response) two turn)
 
 -- no event is left out because of a fault of the store
 no_store : (why : StoreFault) (after : List Event) (list : List Handled) (mid new : List Row) → Halts LeavesOut (Some (faults.Store why)) after list mid new → ⊥

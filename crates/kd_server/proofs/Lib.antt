@@ -1,6 +1,6 @@
 pub mod Batches
 pub mod Headed
 pub mod Staged
+pub mod Stepped
 pub mod Stopping
 pub mod Taken
-pub mod Tried

@@ -11,8 +11,7 @@ ghost use Rattle.kd_server.specs.Keeping.{StepsTo, StillHolds};
 ghost use Rattle.kd_server.specs.Staging.{IsUnset, Stages};
 ghost use Rattle.kd_server.specs.Unkept.{IsSettable};
 
-use crate::server::MOMENTS;
-use crate::turning::turn_at;
+use crate::turning::step;
 use kd_config::Config;
 use kd_event::{Handled, Ports};
 use kd_keeps::{Keeps, StoreFault};
@@ -100,13 +99,9 @@ fn handle_at(
         (record { moment = moment; bytes = bytes.now }) fault leases.new.table.rows) }
     ensures set { Stages leases.old.table.rows set.old.items leases.new.table.rows set.new.items }
 {
-    if moment >= MOMENTS {
-        return Err(ServeFault::MomentTooLarge);
-    }
-    let now = moment.max(leases.rows().latest());
-    let (row, response) = turn_at(alloc, ports, leases.ground(), now, bytes)?;
+    let (row, handled) = step(alloc, ports, leases.ground(), moment, bytes)?;
     stage(alloc, leases, set, row)?;
-    Ok(Handled { now, response })
+    Ok(handled)
 }
 
 // If there is a row and it changes the rows, sets it and lists it to be committed.

@@ -16,7 +16,7 @@ ghost use Rattle.kd_server.specs.Unkept.{IsSettable, IsUnkept};
 
 use crate::batching::{handle_each, keep_all};
 use crate::leases::{Lease, leases_at};
-use crate::turning::turn_at;
+use crate::turning::step;
 use kd_config::Config;
 use kd_event::{Event, Handled, Ports};
 use kd_keeps::{Keeps, Opened};
@@ -192,13 +192,9 @@ impl<S: Keeps> Server<S> {
         if self.store.failed() {
             return Err(ServeFault::Failed);
         }
-        if moment >= MOMENTS {
-            return Err(ServeFault::MomentTooLarge);
-        }
-        let now = moment.max(self.leases.rows().latest());
-        let (row, response) = turn_at(self.alloc, self.ports, self.leases.ground(), now, bytes)?;
+        let (row, handled) = step(self.alloc, self.ports, self.leases.ground(), moment, bytes)?;
         keep(&mut self.leases, &mut self.store, row)?;
-        Ok(Handled { now, response })
+        Ok(handled)
     }
 
     /// Returns what is sent for events, in their order, each at its own time. The rows that they

@@ -8,8 +8,7 @@ ghost use Rattle.kd_server.specs.Trial.{TriesStep, WouldAnswer, at_rows, trying}
 ghost use Rattle.kd_server.specs.Unkept.{IsSettable};
 
 use crate::batching::Rules;
-use crate::server::MOMENTS;
-use crate::turning::turn_at;
+use crate::turning::step;
 use kd_event::Handled;
 use kd_lease::Ground;
 use kd_replay::ServeFault;
@@ -76,19 +75,14 @@ impl<'a> Trial<'a> {
             (record { moment = moment; bytes = bytes.now }) fault self.new.rows) }
         ensures same { self.new ≡ at_rows self.old self.new.rows }
     {
-        if moment >= MOMENTS {
-            return Err(ServeFault::MomentTooLarge);
-        }
         let Rules {
             alloc,
             ports,
             config,
         } = self.rules;
-        let now = moment.max(self.rows.latest());
-        let over = Ground::of(config, &self.rows);
-        let (row, response) = turn_at(alloc, ports, over, now, bytes)?;
+        let (row, handled) = step(alloc, ports, Ground::of(config, &self.rows), moment, bytes)?;
         put(&mut self.rows, row)?;
-        Ok(Handled { now, response })
+        Ok(handled)
     }
 }
 
@@ -107,13 +101,9 @@ impl Rules<'_> {
         ensures failed { IfErr result (λ fault. LeavesOut rows.now.rows
             (record { moment = moment; bytes = bytes.now }) fault rows.now.rows) }
     {
-        if moment >= MOMENTS {
-            return Err(ServeFault::MomentTooLarge);
-        }
-        let now = moment.max(rows.latest());
         let over = Ground::of(self.config, rows);
-        let (_, response) = turn_at(self.alloc, self.ports, over, now, bytes)?;
-        Ok(Handled { now, response })
+        let (_, handled) = step(self.alloc, self.ports, over, moment, bytes)?;
+        Ok(handled)
     }
 }
 

@@ -1,13 +1,17 @@
-ghost use Rattle.std.specs.Prelude.{◌≡◌, ◌≤◌, ◌<◌, ◌^◌, IfOk, IfSome, OnErr};
+ghost use Rattle.std.specs.Prelude.{◌≡◌, ◌≤◌, ◌<◌, ◌^◌, IfErr, IfOk, IfSome, OnErr};
+ghost use Rattle.kd_lease.specs.Change.{after};
 ghost use Rattle.kd_lease.specs.Decided.{IsAnswerTo, outcome_in};
 ghost use Rattle.kd_lease.specs.Rules.{IsSetAt};
 ghost use Rattle.kd_options.specs.Reply.{ItemsFit};
 ghost use Rattle.kd_replay.specs.Text.{IsSmall};
-ghost use Rattle.kd_server.specs.Keeping.{HasHeader};
+ghost use Rattle.kd_server.specs.Batch.{LeavesOut};
+ghost use Rattle.kd_server.specs.Keeping.{HasHeader, StepsTo};
 ghost use Rattle.kd_server.specs.Step.{Responds};
 ghost use Rattle.kd_server.specs.Turn.{IsSent, IsTurn, Turns};
+ghost use Rattle.kd_server.specs.Unkept.{IsSettable};
 
-use kd_event::{Ports, Reason, Response};
+use crate::server::MOMENTS;
+use kd_event::{Handled, Ports, Reason, Response};
 use kd_lease::{Ground, Plan, Verdict, decide_on, destination};
 use kd_options::{Message, ReadFault, WriteFault};
 use kd_replay::ServeFault;
@@ -15,10 +19,37 @@ use kd_rows::Row;
 use kd_wire::Bytes;
 use std::alloc::{AllocError, Global};
 
+// What an event does: the row that it sets, if any, and what is answered. A time before the latest
+// change counts as that of the change.
+//
+// Errors: `MomentTooLarge` if the time is not below 2^40, and `Memory` if memory runs out.
+pub(crate) fn step(
+    alloc: Global,
+    ports: Ports,
+    over: Ground<'_>,
+    moment: u64,
+    bytes: &[u8],
+) -> Result<(Option<Row>, Handled), ServeFault>
+    ensures steps { IfOk result (λ t. StepsTo over.entry.config.now ports over.entry.rows.now.rows
+        (record { moment = moment; bytes = bytes.now }) t.1 (after over.entry.rows.now.rows t.0)) }
+    ensures set { IfOk result (λ t. IfSome t.0 (IsSettable over.entry.rows.now.rows)) }
+    ensures small { IfOk result (λ t. IsSmall t.1.response) }
+    ensures early { IfOk result (λ t. t.1.now < 2 ^ 40) }
+    ensures failed { IfErr result (λ fault. LeavesOut over.entry.rows.now.rows
+        (record { moment = moment; bytes = bytes.now }) fault over.entry.rows.now.rows) }
+{
+    if moment >= MOMENTS {
+        return Err(ServeFault::MomentTooLarge);
+    }
+    let now = moment.max(over.rows.latest());
+    let (row, response) = turn_at(alloc, ports, over, now, bytes)?;
+    Ok((row, Handled { now, response }))
+}
+
 // What a datagram does at this time: the row that it sets, if any, and what is sent. No memory is
 // allocated before its header is read.
 #[tactic(auto, using(crate::proofs::Headed::message_headed))]
-pub(crate) fn turn_at(
+fn turn_at(
     alloc: Global,
     ports: Ports,
     over: Ground<'_>,
