@@ -1,4 +1,5 @@
 pub mod Answered
+pub mod Defining
 pub mod Grouped
 pub mod Imported
 pub mod Reported

@@ -112,7 +112,8 @@ module _ {H N U L R : Type 0} (h : Hosts H N U L R) where
     pub socket : Result Bool SocketTrouble
     pub socket_found : h.reaches after.host place.address place.port socket
     pub shown : ((report : List ℕ)
-        × IsCheckReport (option_map string_bytes files.store) store place socket report
+        × IsCheckReport (option_map string_bytes files.config) config
+        (option_map string_bytes files.store) store place socket report
         × ShowsOrBreaks report
         (check_status (config_finding config ∷ finding_number store ∷ socket_finding socket ∷ []))
         status before.streams.output after.streams.output before.streams.faults

@@ -1,3 +1,4 @@
+pub mod Advice
 pub mod Banner
 pub mod Checking
 pub mod Explaining

@@ -1,7 +1,10 @@
--- What a check of a start prints about a store and a socket.
+-- What a check of a start prints.
 use Rattle.std.specs.Prelude.{◌≡◌, ℕ, ◌-◌, ◌==◌, ◌&&◌, ◌||◌, Bool, true, false, if◌then◌else◌, nat_le, nat_lt}
 use Rattle.std.specs.Prelude.{IsTrue, List, [], ◌∷◌, ◌++◌, Option, None, Some, Result, Ok, Err, codes, decimal}
 use Rattle.std.specs.List.{flat_map, list_all}
+use Rattle.kd_program.specs.Advice.{IsAboutConfig}
+use Rattle.kd_config.specs.Configuration.{Configuration}
+use Rattle.kd_io.specs.declared.start.StartFault.{StartFault}
 use Rattle.kd_check.specs.Findings.{socket_trouble_words, store_trouble_words}
 use Rattle.kd_check.specs.declared.findings.SocketTrouble.{SocketTrouble}
 use Rattle.kd_check.specs.declared.findings.StoreTrouble.TheVariants as troubles
@@ -110,11 +113,13 @@ socket_text (Err trouble) = socket_trouble_words trouble ++ codes "\n"
 unfoldable pub socket_lines : Place → Result Bool SocketTrouble → List ℕ
 socket_lines place answer = place_text place.address place.port ++ codes ": " ++ socket_text answer
 
--- a report: lines about the configuration, those about the store at a path, if there is a path, and
--- those about the socket, as a terminal may show them
-pub record IsCheckReport (path : Option (List ℕ)) (store : StoreFinding) (place : Place)
+-- a report: lines about the configuration in a file, if one is named, those about the store at a
+-- path, if there is a path, and those about the socket, as a terminal may show them
+pub record IsCheckReport (file : Option (List ℕ)) (config : Result Configuration StartFault)
+    (path : Option (List ℕ)) (store : StoreFinding) (place : Place)
     (socket : Result Bool SocketTrouble) (report : List ℕ) : Type 0 where
   pub about_config : List ℕ
+  pub configured : IsAboutConfig file config about_config
   pub left_out : Option ℕ
   pub shown : report
       ≡ shown_text (about_config ++ store_lines path store left_out ++ socket_lines place socket)

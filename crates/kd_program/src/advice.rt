@@ -1,9 +1,16 @@
+ghost use Rattle.std.specs.Prelude.{◌≡◌, ◌++◌, ◌||◌, Bool, OnOk, is_some, option_copied, option_map, string_bytes};
+ghost use Rattle.std.specs.List.{flat_map, list_any};
+ghost use Rattle.kd_classes.specs.Order.{built_in};
+ghost use Rattle.kd_program.specs.Advice.{advice_lines, asks_relay, class_trouble, def_asks, defined, last_of, network_lines, pool_advice, pool_note};
+ghost use Rattle.kd_program.specs.Advice.{pool_text, required_trouble, server_advice, server_text, subnet_advice, subnet_note, subnet_text, test_asks};
+
 use crate::host::Host;
 use kd_check::findings::SocketTrouble;
-use kd_classes::Classes;
+use kd_classes::{ClassDef, Classes};
 use kd_config::{Config, Pool, Prefix, Subnet};
 use kd_replay::{put_address, put_prefix};
 use kd_token::{Token, Verified};
+use kd_wire::Bytes;
 use std::alloc::AllocError;
 
 // The first address that no host can have: multicast (RFC 1112), reserved ones and broadcast.
@@ -16,40 +23,85 @@ pub(crate) fn put_advice<H: Host>(
     host: &H,
     name: &str,
     config: &Config,
-) -> Result<(), AllocError> {
+) -> Result<(), AllocError>
+    ensures { OnOk result ((is_missing : Bool) × (string_bytes text.new
+        ≡ string_bytes text.old ++ advice_lines name.now config.now is_missing)) }
+{
     let server = config.server();
-    put_server(text, host, name, server)?;
+    let is_missing = server < FIRST_OF_NO_HOST && misses(host, server);
+    put_server(text, name, server, is_missing)?;
+    put_subnets(text, name, config)?;
+    Ok(())
+}
+
+// Asks the host whether it has no such address.
+fn misses<H: Host>(host: &H, address: u32) -> bool {
+    match host.try_socket(address, 0) {
+        Err(SocketTrouble::NoSuchAddress) => true,
+        _ => false,
+    }
+}
+
+// Prints a line if clients cannot reach a server at an address.
+fn put_server(
+    text: &mut String,
+    name: &str,
+    server: u32,
+    is_missing: bool,
+) -> Result<(), AllocError>
+    ensures { OnOk result (string_bytes text.new
+        ≡ string_bytes text.old ++ server_advice name.now server is_missing) }
+{
+    if server >= FIRST_OF_NO_HOST {
+        put_server_line(text, name, server, ": no host has such an address\n")
+    } else if is_missing {
+        put_server_line(text, name, server, ": this machine has no such address\n")
+    } else {
+        Ok(())
+    }
+}
+
+#[tactic(auto, unfolding(crate::specs::Advice::server_text))]
+fn put_server_line(
+    text: &mut String,
+    name: &str,
+    server: u32,
+    words: &str,
+) -> Result<(), AllocError>
+    ensures { OnOk result (string_bytes text.new
+        ≡ string_bytes text.old ++ server_text name.now server words.now) }
+{
+    text.push_str(name)?;
+    text.push_str(": server-address ")?;
+    put_address(text, server)?;
+    text.push_str(words)?;
+    Ok(())
+}
+
+// Prints the lines about the subnets of a configuration.
+fn put_subnets(text: &mut String, name: &str, config: &Config) -> Result<(), AllocError>
+    ensures { OnOk result (string_bytes text.new ≡ string_bytes text.old
+        ++ flat_map (subnet_advice name.now config.now) config.now.subnets) }
+{
     for subnet in config.subnets() {
-        put_class(text, name, config.classes(), subnet)?;
-        put_pools(text, name, server, subnet)?;
+        put_subnet(text, name, config, subnet)?;
     }
     Ok(())
 }
 
-// Prints a line if clients cannot reach a server at an address.
-fn put_server<H: Host>(
+// Prints the lines about a subnet.
+fn put_subnet(
     text: &mut String,
-    host: &H,
     name: &str,
-    server: u32,
-) -> Result<(), AllocError> {
-    let what = if server >= FIRST_OF_NO_HOST {
-        ": no host has such an address\n"
-    } else if let Err(SocketTrouble::NoSuchAddress) = host.try_socket(server, 0) {
-        ": this machine has no such address\n"
-    } else {
-        return Ok(());
-    };
-    begin_line(text, name, "server-address ")?;
-    put_address(text, server)?;
-    text.push_str(what)
-}
-
-// Begins a line about a part of a configuration.
-fn begin_line(text: &mut String, name: &str, part: &str) -> Result<(), AllocError> {
-    text.push_str(name)?;
-    text.push_str(": ")?;
-    text.push_str(part)
+    config: &Config,
+    subnet: &Subnet,
+) -> Result<(), AllocError>
+    ensures { OnOk result (string_bytes text.new
+        ≡ string_bytes text.old ++ subnet_advice name.now config.now subnet.now) }
+{
+    put_class(text, name, config.classes(), subnet)?;
+    put_pools(text, name, config.server(), subnet)?;
+    Ok(())
 }
 
 // Prints a line if nobody can be in the class that a subnet requires, or if its clients leave it as
@@ -59,108 +111,216 @@ fn put_class(
     name: &str,
     classes: &Classes,
     subnet: &Subnet,
-) -> Result<(), AllocError> {
-    let Some(class) = &subnet.class else {
-        return Ok(());
-    };
-    let what = if !may_be_held(classes, class.as_slice()) {
-        ": its client-class is not defined, so it serves nobody\n"
-    } else if asks_relays(classes, class.as_slice()) {
-        ": its client-class asks for option 82, which a client that renews does not send, so it does not serve renewals\n"
-    } else {
-        return Ok(());
-    };
-    begin_line(text, name, "subnet ")?;
-    put_prefix(text, subnet.prefix.address, subnet.prefix.length)?;
-    text.push_str(what)
+) -> Result<(), AllocError>
+    ensures { OnOk result (string_bytes text.new ≡ string_bytes text.old
+        ++ subnet_note name.now subnet.now.prefix
+        (required_trouble classes.now subnet.now.class)) }
+{
+    match trouble_of(classes, &subnet.class) {
+        Some(words) => put_subnet_line(text, name, subnet.prefix, words),
+        None => Ok(()),
+    }
 }
 
-// Reports whether the test of a class asks for what a relay adds (RFC 3046).
-fn asks_relays(classes: &Classes, name: &[u8]) -> bool {
+#[tactic(auto, unfolding(crate::specs::Advice::subnet_text))]
+fn put_subnet_line(
+    text: &mut String,
+    name: &str,
+    prefix: Prefix,
+    words: &str,
+) -> Result<(), AllocError>
+    ensures { OnOk result (string_bytes text.new
+        ≡ string_bytes text.old ++ subnet_text name.now prefix words.now) }
+{
+    text.push_str(name)?;
+    text.push_str(": subnet ")?;
+    put_prefix(text, prefix.address, prefix.length)?;
+    text.push_str(words)
+}
+
+// Returns, in words, what is wrong with requiring a class, if one is required.
+fn trouble_of(classes: &Classes, class: &Option<Bytes>) -> Option<&'static str>
+    ensures { option_copied result ≡ required_trouble classes.now class.now }
+{
+    match class {
+        Some(class) => trouble_with(classes, class.as_slice()),
+        None => None,
+    }
+}
+
+fn trouble_with(classes: &Classes, class: &[u8]) -> Option<&'static str>
+    ensures { option_copied result ≡ class_trouble classes.now class.now }
+{
+    let found = defined_in(classes, class);
+    if !(is_built_in(class) || found.is_some()) {
+        return Some(": its client-class is not defined, so it serves nobody\n");
+    }
+    if definition_asks(found) {
+        return Some(
+            ": its client-class asks for option 82, which a client that renews does not send, so it does not serve renewals\n",
+        );
+    }
+    None
+}
+
+// Reports whether a class is built in: a message can be in it before any definition.
+fn is_built_in(name: &[u8]) -> bool
+    ensures { result ≡ built_in name.now }
+{
+    name == b"ALL".as_slice() || name.starts_with(b"VENDOR_CLASS_")
+}
+
+// Returns the definition of a class, if there is one.
+#[tactic(auto, using(crate::proofs::Defining::defined_later, crate::proofs::Defining::defined_here, crate::proofs::Defining::defined_nowhere, crate::proofs::Defining::defined_past))]
+fn defined_in<'a>(classes: &'a Classes, name: &[u8]) -> Option<&'a ClassDef>
+    ensures { option_copied result ≡ defined classes.now name.now }
+{
     for at in 0..classes.len() {
-        if let Some(definition) = classes.def_at(at) {
-            if definition.name.as_slice() == name {
-                return test_asks_relays(&definition.test);
-            }
+        let Some(definition) = classes.def_at(at) else {
+            return None;
+        };
+        if name == definition.name.as_slice() {
+            return Some(definition);
         }
     }
-    false
+    None
 }
 
-// Reports whether a test asks for what a relay adds.
-fn test_asks_relays(test: &Option<Verified>) -> bool {
-    let Some(test) = test else {
-        return false;
-    };
-    for token in test.program().tokens() {
-        match token {
-            Token::PushRelay(_) | Token::RelayExists(_) => return true,
-            _ => {}
-        }
+// Reports whether there is a definition and its test asks for what a relay adds (RFC 3046).
+fn definition_asks(definition: Option<&ClassDef>) -> bool
+    ensures { result ≡ def_asks (option_copied definition.entry) }
+{
+    match definition {
+        Some(definition) => asks(&definition.test),
+        None => false,
     }
-    false
 }
 
-// Reports whether a message can be in a class: it is built in or defined.
-fn may_be_held(classes: &Classes, name: &[u8]) -> bool {
-    if name == b"ALL".as_slice() || name.starts_with(b"VENDOR_CLASS_") {
-        return true;
+// Reports whether there is a test and it asks for what a relay adds.
+fn asks(test: &Option<Verified>) -> bool
+    ensures { result ≡ test_asks test.now }
+{
+    match test {
+        Some(test) => has_relay_token(test.program().tokens()),
+        None => false,
     }
-    for at in 0..classes.len() {
-        match classes.def_at(at) {
-            Some(definition) if definition.name.as_slice() == name => return true,
-            _ => {}
-        }
+}
+
+fn has_relay_token(tokens: &[Token]) -> bool
+    ensures { result ≡ list_any asks_relay tokens.now }
+{
+    tokens.iter().any(|token| is_relay_token(token))
+}
+
+fn is_relay_token(token: &Token) -> bool
+    ensures { result ≡ asks_relay token.now }
+{
+    match token {
+        Token::PushRelay(_) => true,
+        Token::RelayExists(_) => true,
+        _ => false,
     }
-    false
 }
 
 // Prints a line for each address of a subnet's pools that no client should have.
-fn put_pools(
-    text: &mut String,
-    name: &str,
-    server: u32,
-    subnet: &Subnet,
-) -> Result<(), AllocError> {
+fn put_pools(text: &mut String, name: &str, server: u32, subnet: &Subnet) -> Result<(), AllocError>
+    ensures { OnOk result (string_bytes text.new ≡ string_bytes text.old
+        ++ flat_map (pool_advice name.now server subnet.now.prefix) subnet.now.pools) }
+{
     for pool in subnet.pools.as_slice() {
-        if let Some((first, last)) = ends_of(subnet.prefix) {
-            put_address_of(text, name, pool, first, "the address of the network")?;
-            put_address_of(text, name, pool, last, "the broadcast address")?;
-        }
-        put_address_of(text, name, pool, server, "the address of the server")?;
+        put_pool(text, name, server, subnet.prefix, pool)?;
     }
     Ok(())
 }
 
-// Returns the first and the last address of a prefix, which no host has; none for a prefix of at
-// most two addresses (RFC 3021).
-fn ends_of(prefix: Prefix) -> Option<(u32, u32)> {
-    if prefix.size() <= 2 {
-        return None;
-    }
-    let behind = u64::from(prefix.address).saturating_add(prefix.size());
-    let last = u32::try_from(behind.saturating_sub(1)).unwrap_or(u32::MAX);
-    Some((prefix.address, last))
+// Prints a line for each address of a pool that no client should have.
+fn put_pool(
+    text: &mut String,
+    name: &str,
+    server: u32,
+    prefix: Prefix,
+    pool: &Pool,
+) -> Result<(), AllocError>
+    ensures { OnOk result (string_bytes text.new
+        ≡ string_bytes text.old ++ pool_advice name.now server prefix pool.now) }
+{
+    put_network(text, name, prefix, pool)?;
+    put_address_of(text, name, pool, server, "the address of the server")?;
+    Ok(())
 }
 
-// Prints a line if an address is in a pool: `NAME: pool FIRST - LAST: ADDRESS is WHAT`.
+// Prints the lines about the first and the last address of a prefix, which no host has, unless it
+// has two addresses at most (RFC 3021).
+fn put_network(text: &mut String, name: &str, prefix: Prefix, pool: &Pool) -> Result<(), AllocError>
+    ensures { OnOk result (string_bytes text.new
+        ≡ string_bytes text.old ++ network_lines name.now prefix pool.now) }
+{
+    if prefix.size() <= 2 {
+        return Ok(());
+    }
+    put_address_of(
+        text,
+        name,
+        pool,
+        prefix.address,
+        "the address of the network",
+    )?;
+    put_address_of(
+        text,
+        name,
+        pool,
+        last_address(prefix),
+        "the broadcast address",
+    )?;
+    Ok(())
+}
+
+// Returns the last address of a prefix.
+fn last_address(prefix: Prefix) -> u32
+    ensures { result ≡ last_of prefix }
+{
+    let last = u64::from(prefix.address) + prefix.size() - 1;
+    last.min(u64::from(u32::MAX)) as u32
+}
+
+// Prints a line if an address is in a pool.
 fn put_address_of(
     text: &mut String,
     name: &str,
     pool: &Pool,
     address: u32,
-    what: &str,
-) -> Result<(), AllocError> {
-    if !pool.range.contains(address) {
-        return Ok(());
+    words: &str,
+) -> Result<(), AllocError>
+    ensures { OnOk result (string_bytes text.new
+        ≡ string_bytes text.old ++ pool_note name.now pool.now address words.now) }
+{
+    if pool.range.contains(address) {
+        put_pool_line(text, name, pool, address, words)
+    } else {
+        Ok(())
     }
-    begin_line(text, name, "pool ")?;
+}
+
+// Prints `NAME: pool FIRST - LAST: ADDRESS is WHAT`.
+#[tactic(auto, unfolding(crate::specs::Advice::pool_text))]
+fn put_pool_line(
+    text: &mut String,
+    name: &str,
+    pool: &Pool,
+    address: u32,
+    words: &str,
+) -> Result<(), AllocError>
+    ensures { OnOk result (string_bytes text.new
+        ≡ string_bytes text.old ++ pool_text name.now pool.now address words.now) }
+{
+    text.push_str(name)?;
+    text.push_str(": pool ")?;
     put_address(text, pool.range.first)?;
     text.push_str(" - ")?;
     put_address(text, pool.range.last)?;
     text.push_str(": ")?;
     put_address(text, address)?;
     text.push_str(" is ")?;
-    text.push_str(what)?;
+    text.push_str(words)?;
     text.push_str("\n")
 }

@@ -1,4 +1,5 @@
-ghost use Rattle.std.specs.Prelude.{◌≡◌, ◌++◌, IfOk, OnOk, codes, decimal, option_map, string_bytes};
+ghost use Rattle.std.specs.Prelude.{◌≡◌, ◌++◌, ℕ, IfOk, List, Ok, OnOk, codes, decimal, option_map, string_bytes};
+ghost use Rattle.kd_program.specs.Advice.{IsAboutConfig, name_of, size_line, size_text};
 ghost use Rattle.kd_program.specs.Report.{IsPlain, IsCheckReport, ahead_text, behind_text, damaged_line, finding_text, log_line, seen_rows_text, seen_text, plain_byte, shown_text, socket_lines, socket_text, store_line, store_lines, unread_reason, unused_line};
 
 use crate::advice::put_advice;
@@ -21,8 +22,9 @@ pub(crate) fn report_of<H: Host>(
     files: &Files,
     found: &Found<'_>,
 ) -> Result<String, AllocError>
-    ensures { IfOk result (λ text. IsCheckReport (option_map string_bytes files.now.store)
-        found.now.store.now found.now.place found.now.socket (string_bytes text)) }
+    ensures { IfOk result (λ text. IsCheckReport (option_map string_bytes files.now.config)
+        found.now.config.now (option_map string_bytes files.now.store) found.now.store.now
+        found.now.place found.now.socket (string_bytes text)) }
 {
     let mut text = String::new(alloc);
     put_config(alloc, &mut text, host, files, found.config)?;
@@ -74,22 +76,84 @@ fn put_config<H: Host>(
     host: &H,
     files: &Files,
     config: &Result<Config, StartFault>,
-) -> Result<(), AllocError> {
-    let file = text_of(&files.config);
+) -> Result<(), AllocError>
+    ensures { OnOk result ((about : List ℕ)
+        × IsAboutConfig (option_map string_bytes files.now.config) config.now about
+        × (string_bytes text.new ≡ string_bytes text.old ++ about)) }
+{
     match config {
-        Ok(config) => {
-            let name = file.unwrap_or("the built-in configuration");
-            let name = signs_of(alloc, name.as_bytes())?;
-            let subnets = config.subnets().len();
-            let addresses = pool_addresses(config.subnets());
-            write!(text, "{name}: subnets {subnets}, addresses {addresses}\n")?;
-            put_advice(text, host, name.as_str(), config)
-        }
-        Err(fault) => {
-            let words = host.start_words(file, text_of(&files.token_dir), fault)?;
-            text.push_str(words.as_str())
-        }
+        Ok(config) => put_configured(alloc, text, host, &files.config, config),
+        Err(fault) => put_fault(text, host, files, fault),
     }
+}
+
+// Prints how much a configuration contains, and what is probably a mistake.
+fn put_configured<H: Host>(
+    alloc: Global,
+    text: &mut String,
+    host: &H,
+    file: &Option<String>,
+    config: &Config,
+) -> Result<(), AllocError>
+    ensures { OnOk result ((about : List ℕ)
+        × IsAboutConfig (option_map string_bytes file.now) (Ok config.now) about
+        × (string_bytes text.new ≡ string_bytes text.old ++ about)) }
+{
+    let name = name_in(alloc, file)?;
+    put_size(text, name.as_str(), config)?;
+    put_advice(text, host, name.as_str(), config)?;
+    Ok(())
+}
+
+// Returns the name of a configuration: the path of its file, as a terminal may show it, or what it
+// is.
+fn name_in(alloc: Global, file: &Option<String>) -> Result<String, AllocError>
+    ensures { IfOk result
+        (λ name. string_bytes name ≡ name_of (option_map string_bytes file.now)) }
+{
+    match file {
+        Some(path) => signs_of(alloc, path.as_bytes()),
+        None => signs_of(alloc, "the built-in configuration".as_bytes()),
+    }
+}
+
+// Prints how much a configuration contains.
+fn put_size(text: &mut String, name: &str, config: &Config) -> Result<(), AllocError>
+    ensures { OnOk result
+        (string_bytes text.new ≡ string_bytes text.old ++ size_line name.now config.now) }
+{
+    let subnets = config.subnets();
+    put_amounts(text, name, subnets.len(), pool_addresses(subnets))
+}
+
+fn put_amounts(
+    text: &mut String,
+    name: &str,
+    subnets: usize,
+    addresses: u64,
+) -> Result<(), AllocError>
+    ensures { OnOk result (string_bytes text.new
+        ≡ string_bytes text.old ++ size_text name.now subnets addresses) }
+{
+    text.push_str(name)?;
+    write!(text, ": subnets {subnets}, addresses {addresses}")?;
+    text.push_str("\n")?;
+    Ok(())
+}
+
+// Prints, in words, why there is no configuration.
+fn put_fault<H: Host>(
+    text: &mut String,
+    host: &H,
+    files: &Files,
+    fault: &StartFault,
+) -> Result<(), AllocError>
+    ensures { OnOk result ((words : List ℕ)
+        × (string_bytes text.new ≡ string_bytes text.old ++ words)) }
+{
+    let words = host.start_words(text_of(&files.config), text_of(&files.token_dir), fault)?;
+    text.push_str(words.as_str())?;
+    Ok(())
 }
 
 // Returns a path, if one is given.

@@ -1,0 +1,152 @@
+-- What a check of a start prints about a configuration: how much it contains, and a line for each
+-- part that is probably a mistake, though a server starts with it.
+use Rattle.std.specs.Prelude.{◌≡◌, ℕ, ◌+◌, ◌-◌, ◌^◌, ◌||◌, Bool, true, false, not, min, is_some, nat_le, if◌then◌else◌}
+use Rattle.std.specs.Prelude.{List, [], ◌++◌, Option, None, Some, Result, Ok, Err, codes, decimal, length}
+use Rattle.std.specs.List.{find, flat_map, list_any}
+use Rattle.std.specs.Str.{bytes_eq}
+use Rattle.kd_classes.specs.Order.{built_in}
+use Rattle.kd_classes.specs.declared.definition.ClassDef.{ClassDef}
+use Rattle.kd_config.specs.Address.{prefix_size}
+use Rattle.kd_config.specs.Apart.{has}
+use Rattle.kd_config.specs.Configuration.{Configuration}
+use Rattle.kd_config.specs.declared.pool.Pool.{Pool}
+use Rattle.kd_config.specs.declared.prefix.Prefix.{Prefix}
+use Rattle.kd_config.specs.declared.subnet.Subnet.{Subnet}
+use Rattle.kd_io.specs.declared.start.StartFault.{StartFault}
+use Rattle.kd_names.specs.Values.{sign_text}
+use Rattle.kd_program.specs.Banner.{subnet_addresses}
+use Rattle.kd_replay.specs.Text.{address_text, prefix_text}
+use Rattle.kd_token.specs.File.{Code}
+use Rattle.kd_token.specs.declared.token.Token.{Token}
+use Rattle.kd_token.specs.declared.token.Token.TheVariants as tokens
+
+-- ---- the server's address
+
+-- the line about the address of a server
+unfoldable pub server_text : List ℕ → ℕ → List ℕ → List ℕ
+server_text name server words =
+    name ++ codes ": server-address " ++ address_text server ++ words
+
+-- the line, if no host can have the address (RFC 1112: multicast, and what is reserved), or else if
+-- this machine is found to have none such
+abbrev pub server_advice : List ℕ → ℕ → Bool → List ℕ
+server_advice name server is_missing =
+    if nat_le 0xe0000000 server
+    then server_text name server (codes ": no host has such an address\n")
+    else if is_missing
+    then server_text name server (codes ": this machine has no such address\n") else []
+
+-- ---- the class that a subnet requires
+
+-- a token asks for what a relay adds (RFC 3046)
+abbrev pub asks_relay : Token → Bool
+asks_relay (tokens.PushRelay code) = true
+asks_relay (tokens.RelayExists code) = true
+asks_relay other = false
+
+-- so does a test, if there is one
+abbrev pub test_asks : Option Code → Bool
+test_asks None = false
+test_asks (Some test) = list_any asks_relay test.tokens
+
+-- the definition of a class, if there is one
+abbrev pub defined : List ClassDef → List ℕ → Option ClassDef
+defined classes name = find (λ def. bytes_eq name def.name) classes
+
+-- the test of a class that is defined asks so
+abbrev pub def_asks : Option ClassDef → Bool
+def_asks None = false
+def_asks (Some def) = test_asks def.test
+
+-- what is wrong with requiring a class: nobody is in it, because it is neither built in nor defined;
+-- or its test asks for what a relay adds, and a client that renews is not relayed
+abbrev pub class_trouble : List ClassDef → List ℕ → Option (List ℕ)
+class_trouble classes class =
+    if not (built_in class || is_some (defined classes class))
+    then Some (codes ": its client-class is not defined, so it serves nobody\n")
+    else if def_asks (defined classes class)
+    then Some (codes ": its client-class asks for option 82, which a client that renews does not send, so it does not serve renewals\n")
+    else None
+
+-- the same, if a class is required
+abbrev pub required_trouble : List ClassDef → Option (List ℕ) → Option (List ℕ)
+required_trouble classes None = None
+required_trouble classes (Some class) = class_trouble classes class
+
+-- the line about a subnet
+unfoldable pub subnet_text : List ℕ → Prefix → List ℕ → List ℕ
+subnet_text name prefix words =
+    name ++ codes ": subnet " ++ prefix_text prefix.address prefix.length ++ words
+
+-- the line, if something is wrong
+abbrev pub subnet_note : List ℕ → Prefix → Option (List ℕ) → List ℕ
+subnet_note name prefix None = []
+subnet_note name prefix (Some words) = subnet_text name prefix words
+
+-- ---- the addresses of a subnet's pools
+
+-- the line about an address in a pool
+unfoldable pub pool_text : List ℕ → Pool → ℕ → List ℕ → List ℕ
+pool_text name pool a words =
+    name ++ codes ": pool " ++ address_text pool.range.first ++ codes " - "
+    ++ address_text pool.range.last ++ codes ": " ++ address_text a ++ codes " is " ++ words
+    ++ codes "\n"
+
+-- the line, if the pool contains the address
+abbrev pub pool_note : List ℕ → Pool → ℕ → List ℕ → List ℕ
+pool_note name pool a words = if has pool.range a then pool_text name pool a words else []
+
+-- the last address of a prefix
+abbrev pub last_of : Prefix → ℕ
+last_of prefix = min (prefix.address + prefix_size prefix.length - 1) (2 ^ 32 - 1)
+
+-- the lines about the addresses of a network, unless it has two addresses at most (RFC 3021)
+abbrev pub network_lines : List ℕ → Prefix → Pool → List ℕ
+network_lines name prefix pool =
+    if nat_le (prefix_size prefix.length) 2 then []
+    else pool_note name pool prefix.address (codes "the address of the network")
+    ++ pool_note name pool (last_of prefix) (codes "the broadcast address")
+
+-- the lines about the addresses of a pool that no client should have
+abbrev pub pool_advice : List ℕ → ℕ → Prefix → Pool → List ℕ
+pool_advice name server prefix pool =
+    network_lines name prefix pool
+    ++ pool_note name pool server (codes "the address of the server")
+
+-- ---- together
+
+-- the lines about a subnet
+abbrev pub subnet_advice : List ℕ → Configuration → Subnet → List ℕ
+subnet_advice name config s =
+    subnet_note name s.prefix (required_trouble config.classes s.class)
+    ++ flat_map (pool_advice name config.server s.prefix) s.pools
+
+-- the lines about a configuration with this name
+abbrev pub advice_lines : List ℕ → Configuration → Bool → List ℕ
+advice_lines name config is_missing =
+    server_advice name config.server is_missing ++ flat_map (subnet_advice name config) config.subnets
+
+-- the name of a configuration: the path of its file, as a terminal may show it, or what it is
+abbrev pub name_of : Option (List ℕ) → List ℕ
+name_of None = flat_map sign_text (codes "the built-in configuration")
+name_of (Some path) = flat_map sign_text path
+
+-- the line that says how much a configuration contains
+unfoldable pub size_text : List ℕ → ℕ → ℕ → List ℕ
+size_text name subnets addresses =
+    name ++ codes ": subnets " ++ decimal subnets ++ codes ", addresses " ++ decimal addresses
+    ++ codes "\n"
+
+-- the same, of its subnets and the addresses in their pools
+abbrev pub size_line : List ℕ → Configuration → List ℕ
+size_line name config =
+    size_text name (length config.subnets) (subnet_addresses config.subnets)
+
+-- a text is about the configuration in a file, if one is named: how much it contains and what is
+-- probably a mistake, where this machine may have been found to have no such address as the
+-- server's; or some words for the fault
+abbrev pub IsAboutConfig : Option (List ℕ) → Result Configuration StartFault → List ℕ → Type 0
+IsAboutConfig file (Ok config) text =
+    (is_missing : Bool)
+    × (text ≡ size_line (name_of file) config ++ advice_lines (name_of file) config is_missing)
+IsAboutConfig file (Err fault) text = Unit {0}
