@@ -1,20 +1,19 @@
 -- Which arguments clap takes for flags, and that no flag passes except those that ask for help or
 -- for the version.
-use Rattle.std.proofs.Common.{◌≡◌, ◌⊎◌, ◌∙◌, ap, refl, subst, sym, inl, inr, ℕ, suc, ◌+◌, arith, true, false, Bool, List, [], ◌∷◌, Option, Some, None}
-use Rattle.std.specs.Prelude.{slice_get, ◌==◌, ◌||◌, if◌then◌else◌}
+use Rattle.std.proofs.Common.{◌≡◌, ◌⊎◌, ◌∙◌, ap, refl, subst, inl, inr, ℕ, suc, ◌+◌, arith, true, false, Bool, List, [], ◌∷◌, Option, Some, None}
+use Rattle.std.specs.Prelude.{slice_get, ◌==◌, if◌then◌else◌}
 use Rattle.std.specs.List.{before_first, position_or_len}
 use Rattle.std.specs.Str.{bytes_eq, chars, IsUtf8, is_utf8}
 use Rattle.std.specs.Char.{encode_utf8}
 use Rattle.std.proofs.lemmas.Bool.{eqb-true}
-use Rattle.std.proofs.lemmas.Slice.Eq.{bytes_eq-Decides}
 use Rattle.std.proofs.lemmas.Str.{is_utf8-from_IsUtf8}
-use Rattle.clap.specs.Lexer.{has_byte, long_of, name_and_value, short_of}
+use Rattle.clap.specs.Lexer.{has_byte, long_of, short_of}
 use Rattle.clap.specs.Words.{Kinds, Rule, Text}
 use Rattle.clap.specs.Kinds.{or_else}
-use Rattle.clap.specs.Walk.{Held, arg_by_long, arg_by_short, has_long, has_short, takes_values}
+use Rattle.clap.specs.Walk.{Held, arg_by_long, arg_by_short, has_long, has_short}
 use Rattle.clap.specs.Simple.{filled, help_rule, version_rule, with_index}
 use Rattle.clap.specs.Faults.{bundle_fault, flag_word_fault, flags_fault, long_fault, react_fault, settle_fault, short_fault}
-use Rattle.clap.specs.declared.error.kind.ErrorKind.TheVariants.{DisplayHelp, DisplayVersion, TooManyValues}
+use Rattle.clap.specs.declared.error.kind.ErrorKind.TheVariants.{DisplayHelp, DisplayVersion}
 use Rattle.kd_commands.specs.Line.{is_flag}
 
 -- the flag for help, as clap builds it
@@ -75,16 +74,7 @@ pub record FlagsFail (c : List Rule) : Type 0 where
   pub long : (name : Text) → IsRefused (arg_by_long c name)
   pub short : (x : ℕ) → IsRefused (arg_by_short c x)
 
--- rules that have the flags for help and no others
-pub flags_fail : (c : List Rule) → ((name : Text) → arg_by_long c name ≡ (if has_long help_built name then Some help_built else None))
-    → ((x : ℕ) → arg_by_short c x ≡ (if has_short help_built x then Some help_built else None)) → FlagsFail c
-flags_fail c long short = record { long = λ name. go (has_long help_built name) (arg_by_long c name) (long name); short = λ x. go (has_short help_built x) (arg_by_short c x) (short x) }
-  where
-    go : (t : Bool) (o : Option Rule) → o ≡ (if t then Some help_built else None) → IsRefused o
-    go true o e = inr (inl e)
-    go false o e = inl e
-
--- rules that have those for the version beside them
+-- rules that have the flags for help and for the version and no others
 pub both_fail : (c : List Rule)
     → ((name : Text) → arg_by_long c name ≡ (if has_long help_built name then Some help_built else (if has_long version_built name then Some version_built else None)))
     → ((x : ℕ) → arg_by_short c x ≡ (if has_short help_built x then Some help_built else (if has_short version_built x then Some version_built else None)))
@@ -145,14 +135,6 @@ first_char x xs text none = go (chars (x ∷ xs)) refl none
 abbrev pub ShortsFail : List Rule → Type 0
 ShortsFail c = (x : ℕ) → (arg_by_short c x ≡ None) ⊎ (arg_by_short c x ≡ Some help_built)
 
--- rules whose one flag of a letter is that for help
-pub shorts_fail : (c : List Rule) → ((x : ℕ) → arg_by_short c x ≡ (if has_short help_built x then Some help_built else None)) → ShortsFail c
-shorts_fail c short x = go (has_short help_built x) (arg_by_short c x) (short x)
-  where
-    go : (t : Bool) (o : Option Rule) → o ≡ (if t then Some help_built else None) → (o ≡ None) ⊎ (o ≡ Some help_built)
-    go true o e = inr e
-    go false o e = inl e
-
 letters_refused : (c : List Rule) → ((x : ℕ) → IsRefused (arg_by_short c x)) → (x : ℕ) (xs : Text) (h : Held) → h.skip ≡ 0 → IsUtf8 (45 ∷ x ∷ xs)
     → bundle_fault c false (x ∷ xs) h ≡ [] → ⊥
 unfolding flags_fault
@@ -209,84 +191,3 @@ whole_before (b ∷ text) h = go (b == 61) refl (whole_before text)
         let rest : has_byte 61 text ≡ false = rw e at h in
         let one : 1 + position_or_len (λ x. x == 61) text ≡ suc (position_or_len (λ x. x == 61) text) = omega arith in
         rw (e, one) (ap (λ l. b ∷ l) (more rest))
-
--- at each flag but this one the rules fail
-pub record FlagsFailBut (name : Text) (own : Rule) (c : List Rule) : Type 0 where
-  pub long : (n : Text) → (arg_by_long c n ≡ None) ⊎ ((arg_by_long c n ≡ Some help_built) ⊎ ((n ≡ name) × (arg_by_long c n ≡ Some own)))
-  pub short : ShortsFail c
-  pub bare : takes_values own ≡ false
-
--- rules that have this flag and the flags for help and no others
-pub flags_fail_but : (name : Text) (own : Rule) (c : List Rule)
-    → ((n : Text) → arg_by_long c n ≡ (if bytes_eq name n || false then Some own else (if has_long help_built n then Some help_built else None)))
-    → ((x : ℕ) → arg_by_short c x ≡ (if has_short help_built x then Some help_built else None)) → takes_values own ≡ false → FlagsFailBut name own c
-flags_fail_but name own c long short bare = record {
-  long = λ n. go n (bytes_eq name n) refl (has_long help_built n) (arg_by_long c n) (long n);
-  short = λ x. letter (has_short help_built x) (arg_by_short c x) (short x);
-  bare = bare;
-}
-  where
-    go : (n : Text) (t : Bool) → bytes_eq name n ≡ t → (u : Bool) (o : Option Rule) → o ≡ (if t || false then Some own else (if u then Some help_built else None))
-        → (o ≡ None) ⊎ ((o ≡ Some help_built) ⊎ ((n ≡ name) × (o ≡ Some own)))
-    go n true is u o e = inr (inr (sym ((bytes_eq-Decides name n).0 is), e))
-    go n false is true o e = inr (inl e)
-    go n false is false o e = inl e
-
-    letter : (t : Bool) (o : Option Rule) → o ≡ (if t then Some help_built else None) → (o ≡ None) ⊎ (o ≡ Some help_built)
-    letter true o e = inr e
-    letter false o e = inl e
-
-module _ (name : Text) (own : Rule) (c : List Rule) (fails : FlagsFailBut name own c) where
-  -- what comes after two hyphens is the flag's name, and no value
-  is_name : (text : Text) (h : Held) → long_fault c false (arg_by_long c (name_and_value text).0) (name_and_value text).1 h ≡ [] → text ≡ name
-  is_name text h none = go (has_byte 61 text) refl (fails.long (name_and_value text).0)
-    where
-      go : (t : Bool) → has_byte 61 text ≡ t
-          → (arg_by_long c (name_and_value text).0 ≡ None)
-          ⊎ ((arg_by_long c (name_and_value text).0 ≡ Some help_built) ⊎ (((name_and_value text).0 ≡ name) × (arg_by_long c (name_and_value text).0 ≡ Some own)))
-          → text ≡ name
-      go t e (inl unknown) = absurd (long_fails c _ _ h (inl unknown) none)
-      go t e (inr (inl help)) = absurd (long_fails c _ _ h (inr help) none)
-      go true e (inr (inr (is, own_is))) =
-          let at_own = subst (λ x. long_fault c false x (name_and_value text).1 h ≡ []) own_is none in
-          let bad : TooManyValues ∷ [] ≡ [] = rw (fails.bare, e) at at_own in
-          cc
-      go false e (inr (inr (is, own_is))) = sym (whole_before text e) ∙ is
-
-  -- after a hyphen
-  hyphen_but : (d : ℕ) (rest : Text) (h : Held) → h.skip ≡ 0 → IsUtf8 (45 ∷ d ∷ rest)
-      → (if bytes_eq (45 ∷ d ∷ rest) (45 ∷ 45 ∷ []) then [] else flag_word_fault c false (long_of (45 ∷ d ∷ rest)) (45 ∷ d ∷ rest) h) ≡ []
-      → ((45 ∷ d ∷ rest) ≡ 45 ∷ 45 ∷ []) ⊎ ((45 ∷ d ∷ rest) ≡ 45 ∷ 45 ∷ name)
-  hyphen_but d rest h start text none = go (d == 45) refl
-    where
-      long : (rest2 : Text) → d ≡ 45 → rest2 ≡ rest → ((45 ∷ d ∷ rest) ≡ 45 ∷ 45 ∷ []) ⊎ ((45 ∷ d ∷ rest) ≡ 45 ∷ 45 ∷ name)
-      long [] e same = inl (rw (e, ← same) refl)
-      long (y ∷ ys) e same =
-          let at_text : long_fault c false (arg_by_long c (name_and_value (y ∷ ys)).0) (name_and_value (y ∷ ys)).1 h ≡ [] = rw (e, ← same) at none in
-          let is = is_name (y ∷ ys) h at_text in
-          inr (rw (e, ← same, is) refl)
-
-      go : (t : Bool) → (d == 45) ≡ t → ((45 ∷ d ∷ rest) ≡ 45 ∷ 45 ∷ []) ⊎ ((45 ∷ d ∷ rest) ≡ 45 ∷ 45 ∷ name)
-      go true e = long rest (eqb-true d 45 e) refl
-      go false e = absurd (bundle_fails c fails.short d rest h start text (let once = rw e at none in rw e at once))
-
-  -- an argument that neither fails nor names a subcommand is `--`, this flag, or no flag
-  pub no_other_flag : (w : Text) (h : Held) → h.skip ≡ 0 → IsUtf8 w
-      → (if bytes_eq w (45 ∷ 45 ∷ []) then [] else flag_word_fault c false (long_of w) w h) ≡ []
-      → (w ≡ 45 ∷ 45 ∷ []) ⊎ ((w ≡ 45 ∷ 45 ∷ name) ⊎ (is_flag w ≡ false))
-  no_other_flag [] h start text none = inr (inr refl)
-  no_other_flag (b ∷ []) h start text none = inr (inr refl)
-  no_other_flag (b ∷ d ∷ rest) h start text none = go (b == 45) refl
-    where
-      hyphen : b ≡ 45 → ((45 ∷ d ∷ rest) ≡ 45 ∷ 45 ∷ []) ⊎ ((45 ∷ d ∷ rest) ≡ 45 ∷ 45 ∷ name)
-      hyphen is = hyphen_but d rest h start (subst (λ x. IsUtf8 (x ∷ d ∷ rest)) is text)
-          (subst (λ x. (if bytes_eq (x ∷ d ∷ rest) (45 ∷ 45 ∷ []) then [] else flag_word_fault c false (long_of (x ∷ d ∷ rest)) (x ∷ d ∷ rest) h) ≡ []) is none)
-
-      go : (t : Bool) → (b == 45) ≡ t → ((b ∷ d ∷ rest) ≡ 45 ∷ 45 ∷ []) ⊎ (((b ∷ d ∷ rest) ≡ 45 ∷ 45 ∷ name) ⊎ (is_flag (b ∷ d ∷ rest) ≡ false))
-      go true e =
-          let is : b ≡ 45 = eqb-true b 45 e in
-          elim (hyphen is) [
-            | inl dashes ↦ inl (ap (λ x. x ∷ d ∷ rest) is ∙ dashes)
-            | inr own_flag ↦ inr (inl (ap (λ x. x ∷ d ∷ rest) is ∙ own_flag))
-          ]
-      go false e = inr (inr e)

@@ -1,5 +1,6 @@
 -- From what clap says of a parse to the order that the arguments give.
-use Rattle.std.proofs.Common.{◌≡◌, ◌⊎◌, ◌∙◌, sym, ap, ap₂, codes, refl, subst, inl, inr, true, List, [], ◌∷◌, map, Option, Some, None, Result, Ok, Err}
+use Rattle.std.proofs.Common.{◌≡◌, ◌⊎◌, ◌∙◌, sym, ap, ap₂, refl, subst, inl, inr, true, List, [], ◌∷◌, map, Option, Some, None, Result, Ok, Err}
+use Rattle.std.proofs.Math.Path.{fun_ext}
 use Rattle.std.specs.Result.{IfErr, IfOk}
 use Rattle.std.specs.Prelude.{Box, String, option_map}
 use Rattle.std.specs.List.{All}
@@ -16,15 +17,13 @@ use Rattle.clap.specs.declared.parser.matches.ArgMatches.TheViews.{out-ArgMatche
 use Rattle.clap.specs.declared.parser.matches.SubCommand.{SubCommand}
 use Rattle.clap.proofs.WalkLemmas.{first_value-rows}
 use Rattle.clap.proofs.OnLiterals.{clap_on_literals}
-use Rattle.kd_commands.specs.Order.{Asked, Asks, AsksFor, GivesUnlessFull, HasFault, HelpsUnlessFull, IsVersionUnlessFull, asked_by, asked_of, checking_of, checks, command_line, compiles, evaluates, evaluation_of, explaining_of, explains, filtering_of, filters, flag_is_given, given_by, imports, listing_of, lists, looks, pools_listing, replaying_of, replays, serves, serving_of, showing_of, shows, tests, types, verifies}
+use Rattle.kd_commands.specs.Order.{Asked, Asks, AsksFor, AsksGiven, GivesUnlessFull, HasFault, HelpsUnlessFull, IsVersionUnlessFull, asked_by, asked_of, command_line, given_by}
 use Rattle.kd_commands.proofs.Lines.{one_asked}
 use Rattle.kd_commands.specs.Steps.{AnswersKind, GivesIfThere}
 use Rattle.kd_commands.specs.declared.fault.LineFault.{LineFault}
 use Rattle.kd_commands.specs.declared.fault.LineFault.TheVariants.{CommandLine, Memory}
 use Rattle.kd_commands.specs.declared.orders.Order.{Order}
-use Rattle.kd_commands.specs.declared.orders.Order.TheVariants.{Help, Version, Show, Expr, Compile, Verify, Eval, EvalText, Replay, Check, Events, Import, Look, Serve, Why, List as ListOrder}
-use Rattle.kd_commands.specs.declared.orders.Listing.{Listing}
-use Rattle.kd_commands.specs.declared.orders.Listing.TheVariants.{Leases}
+use Rattle.kd_commands.specs.declared.orders.Order.TheVariants.{Help, Version, Show, Expr, Compile, Verify, Eval, EvalText, Check, Events, Import, Over}
 
 -- clap reports the matches of this command line, and the kinds of its faults
 is_told : is_simple command_line ≡ true
@@ -52,60 +51,16 @@ are_texts (w ∷ ws) = All-cons IsUtf8 (string_bytes w) (map string_bytes ws) (I
 asks_for : (ws : List Text) (order : Order) (asked : Asked) → given_by order ≡ Some asked → Asks ws asked → AsksFor ws order
 asks_for ws (Help text) asked gives h = cc
 asks_for ws Version asked gives h = cc
-asks_for ws (Show hex names) asked gives h = let is : shows (string_bytes hex) names ≡ asked = cc in subst (Asks ws) (sym is) h
-asks_for ws (Expr text) asked gives h = let is : types (string_bytes text) ≡ asked = cc in subst (Asks ws) (sym is) h
-asks_for ws (Compile text) asked gives h = let is : compiles (string_bytes text) ≡ asked = cc in subst (Asks ws) (sym is) h
-asks_for ws (Verify hex) asked gives h = let is : verifies (string_bytes hex) ≡ asked = cc in subst (Asks ws) (sym is) h
-asks_for ws (Eval program datagram) asked gives h =
-    let is : evaluates (string_bytes program) (string_bytes datagram) ≡ asked = cc in
-    subst (Asks ws) (sym is) h
-asks_for ws (EvalText text datagram) asked gives h =
-    let is : tests (string_bytes text) (string_bytes datagram) ≡ asked = cc in
-    subst (Asks ws) (sym is) h
-asks_for ws (Replay files why) asked gives h =
-    let is : replays (option_map string_bytes files.config) (option_map string_bytes files.token_dir) (option_map string_bytes files.store) why ≡ asked = cc in
-    subst (Asks ws) (sym is) h
-asks_for ws (ListOrder listing files at) asked gives h =
-    let is : lists listing (option_map string_bytes files.config) (option_map string_bytes files.token_dir) (option_map string_bytes files.store) at ≡ asked = cc in
-    subst (Asks ws) (sym is) h
-asks_for ws (Look listing config token_dir store at) asked gives h =
-    let is : looks listing (option_map string_bytes config) (option_map string_bytes token_dir) (string_bytes store) at ≡ asked = cc in
-    subst (Asks ws) (sym is) h
-asks_for ws (Why files live at hex) asked gives h =
-    let is : explains (record {
-      config = option_map string_bytes files.config;
-      token_dir = option_map string_bytes files.token_dir;
-      store = option_map string_bytes files.store;
-      live = live;
-      at = at;
-      hex = string_bytes hex;
-    }) ≡ asked = cc in
-    subst (Asks ws) (sym is) h
-asks_for ws (Import store) asked gives h = let is : imports (string_bytes store) ≡ asked = cc in subst (Asks ws) (sym is) h
-asks_for ws (Events mac address) asked gives h =
-    let is : filters (option_map (λ bytes. bytes.items) mac) address ≡ asked = cc in
-    subst (Asks ws) (sym is) h
-asks_for ws (Check files bind port max_ahead) asked gives h =
-    let is : checks (record {
-      config = option_map string_bytes files.config;
-      token_dir = option_map string_bytes files.token_dir;
-      store = option_map string_bytes files.store;
-      bind = bind;
-      port = port;
-      max_ahead = max_ahead;
-    }) ≡ asked = cc in
-    subst (Asks ws) (sym is) h
-asks_for ws (Serve files listening count journal max_ahead) asked gives h =
-    let is : serves (record {
-      config = option_map string_bytes files.config;
-      token_dir = option_map string_bytes files.token_dir;
-      store = option_map string_bytes files.store;
-      listening = listening;
-      count = count;
-      journal = option_map string_bytes journal;
-      max_ahead = max_ahead;
-    }) ≡ asked = cc in
-    subst (Asks ws) (sym is) h
+asks_for ws (Show hex names) asked gives h = subst (AsksGiven ws) (sym gives) h
+asks_for ws (Expr text) asked gives h = subst (AsksGiven ws) (sym gives) h
+asks_for ws (Compile text) asked gives h = subst (AsksGiven ws) (sym gives) h
+asks_for ws (Verify hex) asked gives h = subst (AsksGiven ws) (sym gives) h
+asks_for ws (Eval program datagram) asked gives h = subst (AsksGiven ws) (sym gives) h
+asks_for ws (EvalText text datagram) asked gives h = subst (AsksGiven ws) (sym gives) h
+asks_for ws (Over files work) asked gives h = subst (AsksGiven ws) (sym gives) h
+asks_for ws (Import store) asked gives h = subst (AsksGiven ws) (sym gives) h
+asks_for ws (Events mac address) asked gives h = subst (AsksGiven ws) (sym gives) h
+asks_for ws (Check files place) asked gives h = subst (AsksGiven ws) (sym gives) h
 
 -- if memory runs out
 memory_answers : (ws : List Text) → Answers ws (Err Memory)
@@ -203,144 +158,20 @@ names m = names_in (out-ArgMatches m).subcommand
 -- what the subcommand that was entered asks for
 pub at_entered : (m inner : ArgMatches) (name : Text) (r : Result Order LineFault) → Some name ≡ subcommand_name_of m
     → Some (rows_of (found_of inner)) ≡ option_map (λ p. p.1) (subcommand_rows_of m)
-    → GivesIfThere (asked_by name (rows_of (found_of inner))) r → GivesIfThere (asked_of (subcommand_rows_of m)) r
+    → GivesIfThere (asked_by name (λ n. first_value (found_of inner) n)) r → GivesIfThere (asked_of (subcommand_rows_of m)) r
 at_entered m inner name r named has gives =
     subst (λ o. GivesIfThere o r) (sym (go (subcommand_rows_of m) (named ∙ sym (names m)) has)) gives
   where
     go : (o : Option (Text × List Row)) → Some name ≡ option_map (λ p. p.0) o → Some (rows_of (found_of inner)) ≡ option_map (λ p. p.1) o
-        → asked_of o ≡ asked_by name (rows_of (found_of inner))
+        → asked_of o ≡ asked_by name (λ n. first_value (found_of inner) n)
     go None n h = cc
     go (Some p) n h =
         let is_name : p.0 ≡ name = let same : Some name ≡ Some p.0 = n in cc in
         let is_rows : p.1 ≡ rows_of (found_of inner) = let same : Some (rows_of (found_of inner)) ≡ Some p.1 = h in cc in
-        ap₂ asked_by is_name is_rows
+        let text : (n : Text) → first_of n p.1 ≡ first_value (found_of inner) n = λ n. ap (first_of n) is_rows ∙ sym (first_value-rows (found_of inner) n) in
+        ap₂ asked_by is_name (fun_ext text)
 
--- which is what the subcommand of its name does
-named : (name wanted : Text) (inner : ArgMatches) → name ≡ wanted → asked_by name (rows_of (found_of inner)) ≡ asked_by wanted (rows_of (found_of inner))
-named name wanted inner is = ap (λ x. asked_by x (rows_of (found_of inner))) is
-
--- what is made of the text of this subcommand
-pub at_text : (inner : ArgMatches) (name wanted id : Text) (f : Text → Asked) (r : Result Order LineFault) → name ≡ wanted
-    → asked_by wanted (rows_of (found_of inner)) ≡ option_map f (first_of id (rows_of (found_of inner)))
-    → GivesIfThere (option_map f (first_value (found_of inner) id)) r → GivesIfThere (asked_by name (rows_of (found_of inner))) r
-at_text inner name wanted id f r is asks gives =
-    let same : option_map f (first_value (found_of inner) id) ≡ asked_by name (rows_of (found_of inner)) =
-    ap (option_map f) (first_value-rows (found_of inner) id) ∙ sym (named name wanted inner is ∙ asks) in
-    subst (λ o. GivesIfThere o r) same gives
-
--- what is made of the flag and the two texts of `eval`
-pub at_eval : (inner : ArgMatches) (name : Text) (r : Result Order LineFault) → name ≡ codes "eval"
-    → GivesIfThere (evaluation_of (first_value (found_of inner) (codes "text")) (first_value (found_of inner) (codes "PROGRAM")) (first_value (found_of inner) (codes "DATAGRAM"))) r
-    → GivesIfThere (asked_by name (rows_of (found_of inner))) r
-at_eval inner name r is gives =
-    let value = first_value-rows (found_of inner) (codes "text") in
-    let program = first_value-rows (found_of inner) (codes "PROGRAM") in
-    let datagram = first_value-rows (found_of inner) (codes "DATAGRAM") in
-    let at_name_is = named name (codes "eval") inner is in
-    subst (λ o. GivesIfThere o r) (sym at_name_is) (rw (value, program, datagram) at gives)
-
--- what is made of the flag and the text of `show`
-pub at_show : (inner : ArgMatches) (name : Text) (r : Result Order LineFault) → name ≡ codes "show"
-    → GivesIfThere (showing_of (first_value (found_of inner) (codes "names")) (first_value (found_of inner) (codes "HEX"))) r
-    → GivesIfThere (asked_by name (rows_of (found_of inner))) r
-at_show inner name r is gives =
-    let same = ap₂ showing_of (first_value-rows (found_of inner) (codes "names")) (first_value-rows (found_of inner) (codes "HEX")) in
-    let at_name_is = named name (codes "show") inner is in
-    subst (λ o. GivesIfThere o r) (same ∙ sym at_name_is) gives
-
--- what is made of the options of `replay`
-pub at_replay : (inner : ArgMatches) (name : Text) (r : Result Order LineFault) → name ≡ codes "replay"
-    → GivesIfThere (replaying_of (first_value (found_of inner) (codes "config")) (first_value (found_of inner) (codes "token-dir"))
-    (first_value (found_of inner) (codes "store")) (first_value (found_of inner) (codes "why"))) r
-    → GivesIfThere (asked_by name (rows_of (found_of inner))) r
-at_replay inner name r is gives =
-    let config = first_value-rows (found_of inner) (codes "config") in
-    let token_dir = first_value-rows (found_of inner) (codes "token-dir") in
-    let store = first_value-rows (found_of inner) (codes "store") in
-    let why = first_value-rows (found_of inner) (codes "why") in
-    let at_name_is = named name (codes "replay") inner is in
-    subst (λ o. GivesIfThere o r) (sym at_name_is) (rw (config, token_dir, store, why) at gives)
-
--- what is made of the options of `leases` or of `pools`
-abbrev listed_of : Listing → (Text → Option Text) → Option Asked
-listed_of listing text = listing_of listing (text (codes "config")) (text (codes "token-dir")) (text (codes "store"))
-    (flag_is_given (text (codes "live"))) (text (codes "at"))
-
-same_listed : (listing : Listing) (f g : Text → Option Text) → ((n : Text) → f n ≡ g n) → listed_of listing f ≡ listed_of listing g
-same_listed listing f g same = rw (same (codes "config"), same (codes "token-dir"), same (codes "store"), same (codes "live"), same (codes "at")) refl
-
-pub at_leases : (inner : ArgMatches) (name : Text) (r : Result Order LineFault) → name ≡ codes "leases"
-    → GivesIfThere (listed_of Leases (λ n. first_value (found_of inner) n)) r
-    → GivesIfThere (asked_by name (rows_of (found_of inner))) r
-at_leases inner name r is gives =
-    let same = same_listed Leases (λ n. first_value (found_of inner) n) (λ n. first_of n (rows_of (found_of inner))) (λ n. first_value-rows (found_of inner) n) in
-    let at_name_is = named name (codes "leases") inner is in
-    subst (λ o. GivesIfThere o r) (same ∙ sym at_name_is) gives
-
-pub at_pools : (inner : ArgMatches) (name : Text) (r : Result Order LineFault) → name ≡ codes "pools"
-    → GivesIfThere (listed_of (pools_listing (first_value (found_of inner) (codes "prometheus"))) (λ n. first_value (found_of inner) n)) r
-    → GivesIfThere (asked_by name (rows_of (found_of inner))) r
-at_pools inner name r is gives =
-    let text : Text → Option Text = λ n. first_value (found_of inner) n in
-    let printed : pools_listing (text (codes "prometheus")) ≡ pools_listing (first_of (codes "prometheus") (rows_of (found_of inner))) =
-    ap pools_listing (first_value-rows (found_of inner) (codes "prometheus")) in
-    let same = same_listed (pools_listing (first_of (codes "prometheus") (rows_of (found_of inner)))) text (λ n. first_of n (rows_of (found_of inner)))
-    (λ n. first_value-rows (found_of inner) n) in
-    let at_name_is = named name (codes "pools") inner is in
-    subst (λ o. GivesIfThere o r) (ap (λ listing. listed_of listing text) printed ∙ same ∙ sym at_name_is) gives
-
--- what is made of the options of `events`
-pub at_events : (inner : ArgMatches) (name : Text) (r : Result Order LineFault) → name ≡ codes "events"
-    → GivesIfThere (filtering_of (first_value (found_of inner) (codes "mac")) (first_value (found_of inner) (codes "address"))) r
-    → GivesIfThere (asked_by name (rows_of (found_of inner))) r
-at_events inner name r is gives =
-    let same = ap₂ filtering_of (first_value-rows (found_of inner) (codes "mac")) (first_value-rows (found_of inner) (codes "address")) in
-    let at_name_is = named name (codes "events") inner is in
-    subst (λ o. GivesIfThere o r) (same ∙ sym at_name_is) gives
-
--- what is made of the options of `check`
-same_checking : (f g : Text → Option Text) → ((n : Text) → f n ≡ g n) → checking_of f ≡ checking_of g
-same_checking f g same =
-    rw (same (codes "config"), same (codes "token-dir"), same (codes "store"), same (codes "bind"), same (codes "port"), same (codes "max-ahead")) refl
-
-pub at_check : (inner : ArgMatches) (name : Text) (r : Result Order LineFault) → name ≡ codes "check"
-    → GivesIfThere (checking_of (λ option. first_value (found_of inner) option)) r
-    → GivesIfThere (asked_by name (rows_of (found_of inner))) r
-at_check inner name r is gives =
-    let same = same_checking (λ n. first_value (found_of inner) n) (λ n. first_of n (rows_of (found_of inner))) (λ n. first_value-rows (found_of inner) n) in
-    let at_name_is = named name (codes "check") inner is in
-    subst (λ o. GivesIfThere o r) (same ∙ sym at_name_is) gives
-
--- what is made of the datagram and the options of `why`
-same_explaining : (f g : Text → Option Text) → ((n : Text) → f n ≡ g n) → explaining_of f ≡ explaining_of g
-same_explaining f g same =
-    rw (same (codes "at"), same (codes "HEX"), same (codes "config"), same (codes "token-dir"), same (codes "store"), same (codes "live")) refl
-
-pub at_why : (inner : ArgMatches) (name : Text) (r : Result Order LineFault) → name ≡ codes "why"
-    → GivesIfThere (explaining_of (λ option. first_value (found_of inner) option)) r
-    → GivesIfThere (asked_by name (rows_of (found_of inner))) r
-at_why inner name r is gives =
-    let same = same_explaining (λ n. first_value (found_of inner) n) (λ n. first_of n (rows_of (found_of inner))) (λ n. first_value-rows (found_of inner) n) in
-    let at_name_is = named name (codes "why") inner is in
-    subst (λ o. GivesIfThere o r) (same ∙ sym at_name_is) gives
-
--- what is made of the options of `serve`
-same_serving : (f g : Text → Option Text) → f (codes "config") ≡ g (codes "config") → f (codes "token-dir") ≡ g (codes "token-dir")
-    → f (codes "store") ≡ g (codes "store") → f (codes "bind") ≡ g (codes "bind") → f (codes "port") ≡ g (codes "port")
-    → f (codes "client-port") ≡ g (codes "client-port") → f (codes "count") ≡ g (codes "count") → f (codes "broadcast-as") ≡ g (codes "broadcast-as")
-    → f (codes "mirror") ≡ g (codes "mirror") → f (codes "record") ≡ g (codes "record") → f (codes "max-ahead") ≡ g (codes "max-ahead")
-    → serving_of f ≡ serving_of g
-same_serving f g config token_dir store bind port client_port count broadcast_as mirror journal max_ahead =
-    rw (config, token_dir, store, bind, port, client_port, count, broadcast_as, mirror, journal, max_ahead) refl
-
-pub at_serve : (inner : ArgMatches) (name : Text) (r : Result Order LineFault) → name ≡ codes "serve"
-    → GivesIfThere (serving_of (λ option. first_value (found_of inner) option)) r
-    → GivesIfThere (asked_by name (rows_of (found_of inner))) r
-at_serve inner name r is gives =
-    let value : (option : Text) → first_value (found_of inner) option ≡ first_of option (rows_of (found_of inner)) = λ option. first_value-rows (found_of inner) option in
-    let same : serving_of (λ option. first_value (found_of inner) option) ≡ serving_of (λ option. first_of option (rows_of (found_of inner))) =
-    same_serving (λ option. first_value (found_of inner) option) (λ option. first_of option (rows_of (found_of inner))) (value (codes "config")) (value (codes "token-dir")) (value (codes "store")) (value (codes "bind")) (value (codes "port"))
-    (value (codes "client-port")) (value (codes "count")) (value (codes "broadcast-as")) (value (codes "mirror")) (value (codes "record"))
-    (value (codes "max-ahead")) in
-    let at_name_is = named name (codes "serve") inner is in
-    subst (λ o. GivesIfThere o r) (same ∙ sym at_name_is) gives
+-- what the subcommand of its name does
+pub at_name : (name wanted : Text) (text : Text → Option Text) (r : Result Order LineFault) → name ≡ wanted
+    → GivesIfThere (asked_by wanted text) r → GivesIfThere (asked_by name text) r
+at_name name wanted text r is gives = subst (λ n. GivesIfThere (asked_by n text) r) (sym is) gives

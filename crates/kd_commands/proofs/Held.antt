@@ -1,25 +1,24 @@
 -- What the walk of clap holds once it has read these options, each once.
-use Rattle.std.proofs.Common.{◌≡◌, ◌⊎◌, ◌∙◌, sym, ap, refl, inl, inr, true, false, Bool, List, [], ◌∷◌, ◌++◌, codes, map, fold, Option, Some, None}
-use Rattle.std.specs.Prelude.{find, if◌then◌else◌, option_and_then, slice_get, unwrap_or}
+use Rattle.std.proofs.Common.{◌≡◌, ◌⊎◌, ◌∙◌, ℕ, sym, ap, refl, inl, inr, true, false, Bool, List, [], ◌∷◌, ◌++◌, codes, map, Option, Some, None}
+use Rattle.std.specs.Prelude.{find, if◌then◌else◌, unwrap_or}
 use Rattle.std.specs.List.{AllByRecursion}
 use Rattle.std.specs.Str.{bytes_eq}
 use Rattle.std.proofs.lemmas.List.{append-nil, map-append}
-use Rattle.std.proofs.lemmas.Slice.Eq.{bytes_eq-Decides}
-use Rattle.clap.specs.Words.{Row, Rule, Text, first_of}
+use Rattle.clap.specs.Words.{Row, Rule, Text}
 use Rattle.clap.specs.Walk.{Held, arg_by_id, at_row, has_row, is_empty, more_values, nothing_held, reacted, reading_by, settled, used, with_default, without}
 use Rattle.clap.specs.Faults.{default_fault, defaults_fault, given_default_fault, settle_fault, use_fault}
 use Rattle.clap.specs.declared.builder.value_parser.Reading.{Reading}
 use Rattle.clap.specs.declared.error.kind.ErrorKind.TheVariants.{ArgumentConflict, InvalidValue}
 use Rattle.clap.specs.declared.parser.matches.ValueSource.TheVariants.{CommandLine, DefaultValue}
 use Rattle.clap.proofs.OnLiterals.{clap_on_literals}
-use Rattle.kd_commands.proofs.Options.{IsOption, built_of, flag_of, needed_built}
+use Rattle.kd_commands.proofs.Options.{IsOption, built_of, flag_of, text_built}
 
 -- what comes after a name: a value, or none after that of a flag
 abbrev pub Value : Type 0
 Value = Option Text
 
 -- how the value of this name is read
-abbrev reading_as : Text → Value → Reading
+abbrev pub reading_as : Text → Value → Reading
 reading_as n (Some v) = reading_by (built_of false n)
 reading_as n None = reading_by (flag_of n)
 
@@ -146,21 +145,21 @@ filled_in_is_held c n v h gs option held fresh =
     }
 
 -- and with a text, which is required
-text_used : (id v : Text) (rows : List Row) → used (needed_built id) (v ∷ []) rows ≡ used (built_of true id) (v ∷ []) rows
+text_used : (place : ℕ) (id v : Text) (rows : List Row) → used (text_built place id) (v ∷ []) rows ≡ used (built_of true id) (v ∷ []) rows
 unfolding clap_on_literals
-text_used id v rows = refl
+text_used place id v rows = refl
 
-text_passes : (id v : Text) (rows : List Row) → has_row id rows ≡ false → use_fault false (needed_built id) (v ∷ []) rows ≡ []
+text_passes : (place : ℕ) (id v : Text) (rows : List Row) → has_row id rows ≡ false → use_fault false (text_built place id) (v ∷ []) rows ≡ []
 unfolding clap_on_literals
-text_passes id v rows h = rw h refl
+text_passes place id v rows h = rw h refl
 
-pub text_is_held : (c : List Rule) (id v : Text) (h : Held) (gs : List (Text × Value)) → arg_by_id c id ≡ Some (needed_built id) → IsHeld c h gs
+pub text_is_held : (c : List Rule) (place : ℕ) (id v : Text) (h : Held) (gs : List (Text × Value)) → arg_by_id c id ≡ Some (text_built place id) → IsHeld c h gs
     → has_row id (rows_of gs) ≡ false → IsHeld c (filled_in c id v h) (gs ++ (id, Some v) ∷ [])
-text_is_held c id v h gs by_id held fresh =
+text_is_held c place id v h gs by_id held fresh =
     let none : has_row id (settled c h).rows ≡ false = ap (λ l. has_row id l) held.rows ∙ fresh in
-    let settles : use_fault false (needed_built id) (v ∷ []) (settled c h).rows ≡ [] = text_passes id v (settled c h).rows none in
+    let settles : use_fault false (text_built place id) (v ∷ []) (settled c h).rows ≡ [] = text_passes place id v (settled c h).rows none in
     record {
-      rows = rw by_id (ap (λ l. used (needed_built id) (v ∷ []) l) held.rows ∙ text_used id v (rows_of gs) ∙ used_once true id v gs fresh);
+      rows = rw by_id (ap (λ l. used (text_built place id) (v ∷ []) l) held.rows ∙ text_used place id v (rows_of gs) ∙ used_once true id v gs fresh);
       settles = rw by_id settles;
       skip = held.skip;
     }
@@ -184,23 +183,8 @@ same_both : {A : Type 0} (t : Bool) (x : A) → (if t then x else x) ≡ x
 same_both true x = refl
 same_both false x = refl
 
-with_no_default : (rows : List Row) (a : Rule) → a.defaults ≡ [] → with_default rows a ≡ rows
+pub with_no_default : (rows : List Row) (a : Rule) → a.defaults ≡ [] → with_default rows a ≡ rows
 with_no_default rows a e = rw e (same_both (has_row a.id rows) rows)
-
-pub no_defaults : (c : List Rule) (rows : List Row) → AllByRecursion (λ a. a.defaults ≡ []) c → fold with_default rows c ≡ rows
-no_defaults [] rows none = refl
-no_defaults (a ∷ c) rows (e, none) = ap (λ l. fold with_default l c) (with_no_default rows a e) ∙ no_defaults c rows none
-
--- rules with no default before one that has one
-pub first_default : (c d : List Rule) (a : Rule) (rows : List Row) → AllByRecursion (λ x. x.defaults ≡ []) c
-    → fold with_default rows (c ++ a ∷ d) ≡ fold with_default (with_default rows a) d
-first_default [] d a rows none = refl
-first_default (x ∷ c) d a rows (e, none) = ap (λ l. fold with_default l (c ++ a ∷ d)) (with_no_default rows x e) ∙ first_default c d a rows none
-
--- rules with one default among them
-pub one_default : (c d : List Rule) (a : Rule) (rows : List Row) → AllByRecursion (λ x. x.defaults ≡ []) c → AllByRecursion (λ x. x.defaults ≡ []) d
-    → fold with_default rows (c ++ a ∷ d) ≡ with_default rows a
-one_default c d a rows none after = first_default c d a rows none ∙ no_defaults d (with_default rows a) after
 
 -- a rule has no default, or one that passes
 abbrev pub DefaultPasses : Rule → Type 0
@@ -267,12 +251,3 @@ default_apart f n rows other = go (has_row f rows) refl
     go : (t : Bool) → has_row f rows ≡ t → find (λ x. bytes_eq x.id n) (with_default rows (flag_of f)) ≡ find (λ x. bytes_eq x.id n) rows
     go true e = ap (find (λ x. bytes_eq x.id n)) (default_kept f rows e)
     go false e = ap (find (λ x. bytes_eq x.id n)) (default_put f rows e) ∙ find_behind n rows (default_row f) other
-
--- a flag that is not given is found to be `false`
-pub default_found : (n : Text) (rows : List Row) → has_row n rows ≡ false → first_of n (with_default rows (flag_of n)) ≡ Some (codes "false")
-default_found n rows none =
-    ap (first_of n) (default_put n rows none)
-    ∙ ap (λ o. option_and_then (λ r. slice_get r.values 0) o) (find_last n rows (default_row n) none ((bytes_eq-Decides n n).1 refl))
-
-pub default_left : (n : Text) (rows : List Row) → has_row n rows ≡ true → first_of n (with_default rows (flag_of n)) ≡ first_of n rows
-default_left n rows there = ap (first_of n) (default_kept n rows there)

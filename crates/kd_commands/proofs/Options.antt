@@ -1,13 +1,12 @@
--- Which arguments clap takes for the options of a subcommand that has only options.
+-- Which arguments clap takes for the options and flags of a subcommand.
 use Rattle.std.proofs.Common.{◌≡◌, ◌⊎◌, ◌∙◌, ap, refl, subst, sym, inl, inr, ℕ, suc, ◌+◌, arith, true, false, Bool, List, [], ◌∷◌, ◌++◌, codes, fold, Option, Some, None, append_assoc}
 use Rattle.std.specs.Prelude.{◌==◌, ◌&&◌, if◌then◌else◌, not}
-use Rattle.std.specs.List.{AllByRecursion, after_first, before_first, list_any, position_or_len}
+use Rattle.std.specs.List.{after_first, before_first, list_any, position_or_len}
 use Rattle.std.specs.Str.{bytes_eq, IsUtf8}
 use Rattle.std.proofs.lemmas.Bool.{eqb-true}
-use Rattle.std.proofs.lemmas.Slice.Eq.{bytes_eq-Decides}
 use Rattle.clap.specs.Lexer.{has_byte, long_of, name_and_value}
 use Rattle.clap.specs.Words.{Row, Rule, Text}
-use Rattle.clap.specs.Walk.{Held, arg_by_id, arg_by_long, has_long, with_default}
+use Rattle.clap.specs.Walk.{Held, arg_by_id, arg_by_long, with_default}
 use Rattle.clap.specs.Simple.{filled, with_index}
 use Rattle.clap.specs.Takes.{is_given}
 use Rattle.clap.specs.Faults.{defaults_fault, flag_word_fault, long_fault, option_fault, react_fault}
@@ -24,9 +23,9 @@ built_of needed name = record (with_index 1 (filled (value_rule name))) { requir
 abbrev pub flag_of : Text → Rule
 flag_of name = with_index 1 (filled (flag_rule name))
 
--- a text that is required, as clap builds it
-abbrev pub needed_built : Text → Rule
-needed_built id = with_index 1 (filled (needed_rule id))
+-- a text that is required, as clap builds it at its place
+abbrev pub text_built : ℕ → Text → Rule
+text_built place id = with_index place (filled (needed_rule id))
 
 -- the option's argument, without and with a value
 abbrev pub alone : Text → Text
@@ -68,45 +67,6 @@ pub record AreRules (names flags wanted : List Text) (c : List Rule) : Type 0 wh
   pub defaults : (rows : List Row) → defaults_fault rows c ≡ []
   pub needs : (rows : List Row) → list_any (λ a. a.required && not (is_given a.id (fold with_default rows c))) c ≡ list_any (λ n. not (is_given n rows)) wanted
 
--- ---- which rule a name has
-
--- a rule is an option or a flag of these names, or the flag for help
-abbrev pub IsRule : List Text → List Text → Rule → Type 0
-IsRule names flags a = ((n : Text) × (needed : Bool) × IsOneOf n names × (a ≡ built_of needed n))
-    ⊎ (((n : Text) × IsOneOf n flags × (a ≡ flag_of n)) ⊎ (a ≡ help_built))
-
--- which of these names a flag has
-same_name : (a n : Text) → bytes_eq a n ≡ true → n ≡ a
-same_name a n e = sym ((bytes_eq-Decides a n).0 e)
-
--- the first of the rules with this name is one of them
-pub known_of : (names flags : List Text) (c : List Rule) (n : Text) → AllByRecursion (IsRule names flags) c → Known names flags n (arg_by_long c n)
-known_of names flags [] n h = inl refl
-known_of names flags (a ∷ c) n (first, more) = go first (known_of names flags c n more)
-  where
-    option_first : (m : Text) (needed : Bool) → IsOneOf m names → (t : Bool) → bytes_eq m n ≡ t → Known names flags n (arg_by_long c n)
-        → Known names flags n (arg_by_long (built_of needed m ∷ c) n)
-    option_first m needed one true e later =
-        let is = same_name m n e in
-        rw e (inr (inr (inl (subst (λ x. IsOneOf x names) (sym is) one, (needed, ap (λ x. Some (built_of needed x)) (sym is))))))
-    option_first m needed one false e later = rw e later
-
-    flag_first : (m : Text) → IsOneOf m flags → (t : Bool) → bytes_eq m n ≡ t → Known names flags n (arg_by_long c n)
-        → Known names flags n (arg_by_long (flag_of m ∷ c) n)
-    flag_first m one true e later =
-        let is = same_name m n e in
-        rw e (inr (inr (inr (subst (λ x. IsOneOf x flags) (sym is) one, ap (λ x. Some (flag_of x)) (sym is)))))
-    flag_first m one false e later = rw e later
-
-    help_first : (t : Bool) → has_long help_built n ≡ t → Known names flags n (arg_by_long c n) → Known names flags n (arg_by_long (help_built ∷ c) n)
-    help_first true e later = rw e (inr (inl refl))
-    help_first false e later = rw e later
-
-    go : IsRule names flags a → Known names flags n (arg_by_long c n) → Known names flags n (arg_by_long (a ∷ c) n)
-    go (inl (m, needed, one, is)) later = rw is (option_first m needed one (bytes_eq m n) refl later)
-    go (inr (inl (m, one, is))) later = rw is (flag_first m one (bytes_eq m n) refl later)
-    go (inr (inr is)) later = rw is (help_first (has_long help_built n) refl later)
-
 -- ---- an argument
 
 -- a text with `=` (61) is what comes before the first, and what comes after it
@@ -123,7 +83,7 @@ around (b ∷ text) h = go (b == 61) refl (around text)
         let two : 1 + position_or_len (λ x. x == 61) text + 1 ≡ suc (position_or_len (λ x. x == 61) text + 1) = omega arith in
         rw (e, two, one) (ap (λ l. b ∷ l) (more rest))
 
-is_joined_word : (n value : Text) → codes "--" ++ (n ++ 61 ∷ value) ≡ joined n value
+pub is_joined_word : (n value : Text) → codes "--" ++ (n ++ 61 ∷ value) ≡ joined n value
 is_joined_word n value = ap (λ l. codes "--" ++ l) (sym (append_assoc n (codes "=") value))
 
 module _ (names flags wanted : List Text) (c : List Rule) (ours : AreRules names flags wanted c) where

@@ -1,20 +1,16 @@
--- The command lines of the program in plain words: a subcommand and the texts that it needs, as in
--- `expr TEXT` or `eval PROGRAM DATAGRAM`. `--` may come before any of the texts or after them, and
--- a text may be a flag only if `--` comes before it. The flag of `eval` may come anywhere except
--- after `--`. The other subcommands have options in any order, each given at most once and with a
--- value, as in `--config F` or `--config=F`. All are optional except the time of `leases`, `pools`
--- and `why`, `--at M`, the store of `import`, `--store F`, and the count of `serve`, `--count N`. A
--- flag comes among the options, at most once and without a value: `--live` of `leases`, `pools` and
--- `why`, which requires `--store F`, `--prometheus` of `pools`, and `--mirror` of `serve`. The
--- datagram of `show` and of `why`, `HEX`, comes anywhere among their options and flags, or after
--- `--` at the end.
-use Rattle.std.specs.Prelude.{◌≡◌, ◌⊎◌, ◌==◌, ◌||◌, ℕ, Bool, true, false, not, List, [], ◌∷◌, ◌++◌, Option, Some, None, is_some, codes}
-use Rattle.std.specs.List.Sorted.{IsPermutation}
+-- The command lines of the program in plain words: a subcommand of the table, and what the
+-- arguments behind it give to the names of its parameters.
+--
+-- An option is `--name value`, where the value is no flag, or `--name=value`; a flag is `--name`. A
+-- text that is no flag is for the next parameter that needs a text. These come in any order; from
+-- `--` on all arguments are texts. No name is given twice, each one that is required is given, and
+-- there are as many texts as parameters that need one.
+use Rattle.std.specs.Prelude.{◌≡◌, ◌⊎◌, ◌==◌, Bool, false, List, [], ◌∷◌, ◌++◌, Option, Some, None, codes, if◌then◌else◌, unwrap_or}
+use Rattle.std.specs.List.{AllByRecursion, IsDistinct, list_any}
+use Rattle.std.specs.Map.{keys_of}
+use Rattle.std.specs.Str.{bytes_eq}
 use Rattle.clap.specs.Words.{Text}
-use Rattle.kd_commands.specs.Order.{Asked, Checking, Explaining, Serving, shows, types, compiles, verifies, evaluates, tests, replays, lists, looks, explains, imports, filters, checks, serves, listening_of, loopback}
-use Rattle.kd_commands.specs.Values.{address_of, event_line_of, hardware_of, number_of, port_of, read_if_given, read_or}
-use Rattle.kd_commands.specs.declared.orders.Listing.{Listing}
-use Rattle.kd_commands.specs.declared.orders.Listing.TheVariants.{Leases, Metrics, Pools}
+use Rattle.kd_commands.specs.Order.{Asked, Parameter, asked_by, needs_text, needs_value, subcommand_table, takes_flag, takes_value}
 
 -- a flag is a hyphen followed by more characters
 abbrev pub is_flag : Text → Bool
@@ -22,30 +18,10 @@ is_flag [] = false
 is_flag (b ∷ []) = false
 is_flag (b ∷ c ∷ rest) = b == 45
 
--- the arguments are these texts, except for `--`
-abbrev pub AreTexts : List Text → List Text → Type 0
-AreTexts words [] = (words ≡ []) ⊎ (words ≡ codes "--" ∷ [])
-AreTexts words (text ∷ texts) = (words ≡ codes "--" ∷ text ∷ texts)
-    ⊎ ((rest : List Text) × (words ≡ text ∷ rest) × (is_flag text ≡ false) × AreTexts rest texts)
-
--- the arguments are this subcommand with these texts
-pub record IsLineOf (name : Text) (words texts : List Text) : Type 0 where
-  pub behind : List Text
-  pub named : words ≡ name ∷ behind
-  pub texts_behind : AreTexts behind texts
-
--- the argument is one of these
-abbrev pub IsOneOf : Text → List Text → Type 0
-IsOneOf word [] = ⊥
-IsOneOf word (name ∷ names) = (word ≡ name) ⊎ IsOneOf word names
-
--- the arguments are this subcommand with these texts and, not after `--`, the flag `--text`
-pub record IsFlaggedLine (name : Text) (words texts : List Text) : Type 0 where
-  pub before : List Text
-  pub after : List Text
-  pub named : words ≡ name ∷ (before ++ codes "--text" ∷ after)
-  pub no_dashes : IsOneOf (codes "--") before → ⊥
-  pub texts_behind : AreTexts (before ++ after) texts
+-- it is one of these
+abbrev pub IsOneOf : {A : Type 0} → A → List A → Type 0
+IsOneOf it [] = ⊥
+IsOneOf it (one ∷ others) = (it ≡ one) ⊎ IsOneOf it others
 
 -- the arguments begin with this name: without a value, or with one in the same argument or in the
 -- next, which must then not be a flag
@@ -55,161 +31,101 @@ BeginWith name (Some value) words behind =
     (words ≡ (codes "--" ++ name ++ codes "=" ++ value) ∷ behind)
     ⊎ ((words ≡ (codes "--" ++ name) ∷ value ∷ behind) × (is_flag value ≡ false))
 
--- the arguments are these options with their values, and flags without, in this order, with an
--- optional `--` at the end
-abbrev pub AreOptionWords : List Text → List (Text × Option Text) → Type 0
-AreOptionWords words [] = AreTexts words []
-AreOptionWords words (option ∷ options) =
-    (behind : List Text) × BeginWith option.0 option.1 words behind × AreOptionWords behind options
+-- ---- the names of a subcommand's parameters
 
--- the arguments are these options and flags, in this order, followed by others
-abbrev pub BeginWithOptions : List (Text × Option Text) → List Text → List Text → Type 0
-BeginWithOptions [] words behind = words ≡ behind
-BeginWithOptions (option ∷ options) words behind =
-    (rest : List Text) × BeginWith option.0 option.1 words rest
-    × BeginWithOptions options rest behind
+-- those that need a text, in the order of the texts
+abbrev pub text_names : List Parameter → List Text
+text_names [] = []
+text_names (needs_text name ∷ parameters) = name ∷ text_names parameters
+text_names (parameter ∷ parameters) = text_names parameters
 
--- the arguments are this text, which is not a flag, and these options and flags after it; or only
--- `--` and the text
-abbrev pub AreTextAndOptions : Text → List Text → List (Text × Option Text) → Type 0
-AreTextAndOptions text words options = ((words ≡ codes "--" ∷ text ∷ []) × (options ≡ []))
-    ⊎ ((behind : List Text) × (words ≡ text ∷ behind) × (is_flag text ≡ false)
-    × AreOptionWords behind options)
+-- those of options
+abbrev pub value_names : List Parameter → List Text
+value_names [] = []
+value_names (takes_value name ∷ parameters) = name ∷ value_names parameters
+value_names (needs_value name ∷ parameters) = name ∷ value_names parameters
+value_names (parameter ∷ parameters) = value_names parameters
 
--- the options that have a value
-abbrev pub given_values : List (Text × Option Text) → List (Text × Option Text)
-given_values [] = []
-given_values ((name, None) ∷ options) = given_values options
-given_values ((name, Some value) ∷ options) = (name, Some value) ∷ given_values options
+-- those of flags
+abbrev pub flag_names : List Parameter → List Text
+flag_names [] = []
+flag_names (takes_flag name ∷ parameters) = name ∷ flag_names parameters
+flag_names (parameter ∷ parameters) = flag_names parameters
 
--- the arguments are this subcommand with these options and flags, in any order
-pub record IsOptionLine (name : Text) (words : List Text)
-    (options : List (Text × Option Text)) : Type 0 where
+-- those that are required
+abbrev pub required_names : List Parameter → List Text
+required_names [] = []
+required_names (needs_text name ∷ parameters) = name ∷ required_names parameters
+required_names (needs_value name ∷ parameters) = name ∷ required_names parameters
+required_names (parameter ∷ parameters) = required_names parameters
+
+-- ---- what the arguments behind a subcommand give
+
+-- the first argument is a text for the first of these names
+pub record FillsText (names words : List Text) (name : Text) (value : Option Text) : Type 0 where
+  pub text : Text
+  pub later : List Text
   pub behind : List Text
-  pub in_order : List (Text × Option Text)
-  pub named : words ≡ name ∷ behind
-  pub options_behind : AreOptionWords behind in_order
-  pub in_some_order : IsPermutation in_order options
+  pub first : names ≡ name ∷ later
+  pub words_are : words ≡ text ∷ behind
+  pub value_is : value ≡ Some text
 
--- the arguments are this subcommand with this text among these options and flags, in any order
-pub record IsLineAround (name text : Text) (words : List Text)
-    (options : List (Text × Option Text)) : Type 0 where
-  pub behind : List Text
-  pub from_text : List Text
-  pub before : List (Text × Option Text)
-  pub after : List (Text × Option Text)
-  pub named : words ≡ name ∷ behind
-  pub options_before : BeginWithOptions before behind from_text
-  pub text_then : AreTextAndOptions text from_text after
-  pub in_some_order : IsPermutation (before ++ after) options
+-- the arguments are one text for each of these names, in turn
+abbrev pub GiveTexts : List Text → List Text → List (Text × Option Text) → Type 0
+GiveTexts names words [] = (names ≡ []) × (words ≡ [])
+GiveTexts names words ((name, value) ∷ given) =
+    (text : FillsText names words name value) × GiveTexts text.later text.behind given
 
--- the flag of this name, if it is given
-abbrev pub flag_given : Text → Bool → List (Text × Option Text)
-flag_given name true = (name, None) ∷ []
-flag_given name false = []
+-- an option of this name has a value, and a flag none
+abbrev pub IsNamed : List Parameter → Text → Option Text → Type 0
+IsNamed parameters name (Some value) = IsOneOf name (value_names parameters)
+IsNamed parameters name None = IsOneOf name (flag_names parameters)
 
--- the options that give these files and the digits of a time, and the flag `--live` if it is given
-abbrev pub listing_options : Option Text → Option Text → Option Text → Text → Bool
-    → List (Text × Option Text)
-listing_options config token_dir store digits live =
-    given_values ((codes "config", config) ∷ (codes "token-dir", token_dir)
-    ∷ (codes "store", store) ∷ (codes "at", Some digits) ∷ [])
-    ++ flag_given (codes "live") live
+-- the arguments give these names their values, in this order, where these names still need a text:
+-- first an option or a flag, or a text that is no flag; or `--` is first, and all after it are
+-- texts
+abbrev pub Give : List Parameter → List Text → List Text → List (Text × Option Text) → Type 0
+Give parameters names words [] =
+    (names ≡ []) × ((words ≡ []) ⊎ (words ≡ codes "--" ∷ []))
+Give parameters names words ((name, value) ∷ given) =
+    (IsNamed parameters name value
+    × ((behind : List Text) × BeginWith name value words behind × Give parameters names behind given))
+    ⊎ (((text : FillsText names words name value) × (is_flag text.text ≡ false)
+    × Give parameters text.later text.behind given)
+    ⊎ ((behind : List Text) × (words ≡ codes "--" ∷ behind)
+    × GiveTexts names behind ((name, value) ∷ given)))
 
--- the arguments are the subcommand of this listing with these options: `leases`, `pools`, or
--- `pools` with the flag `--prometheus`
-abbrev pub IsListingLine : List Text → Listing → List (Text × Option Text) → Type 0
-IsListingLine words Leases options = IsOptionLine (codes "leases") words options
-IsListingLine words Pools options = IsOptionLine (codes "pools") words options
-IsListingLine words Metrics options = IsOptionLine (codes "pools") words
-    (options ++ flag_given (codes "prometheus") true)
+-- the value that is given to a name, if any
+abbrev pub value_given : Text → List (Text × Option Text) → Option (Option Text)
+value_given name [] = None
+value_given name (g ∷ given) = if bytes_eq g.0 name then Some g.1 else value_given name given
 
--- the arguments are `events`, with options whose texts stand for these bytes and this number
-pub record IsEventsLine (words : List Text) (bytes : Option (List ℕ))
-    (number : Option ℕ) : Type 0 where
-  pub mac : Option Text
-  pub address : Option Text
-  pub has_bytes : read_if_given hardware_of mac ≡ Some bytes
-  pub has_number : read_if_given address_of address ≡ Some number
-  pub line : IsOptionLine (codes "events") words
-      (given_values ((codes "mac", mac) ∷ (codes "address", address) ∷ []))
+-- the text of a name by its value, or a standard text if it has none
+abbrev pub text_or : Option Text → Option (Option Text) → Option Text
+text_or standard None = standard
+text_or standard (Some value) = Some (unwrap_or value (codes "true"))
 
--- the arguments are `check`, with options whose texts say this
-pub record IsCheckLine (words : List Text) (checking : Checking) : Type 0 where
-  pub bind : Option Text
-  pub port : Option Text
-  pub seconds : Option Text
-  pub binds : read_or address_of loopback bind ≡ Some checking.bind
-  pub opens : read_or port_of 67 port ≡ Some checking.port
-  pub bounds : read_if_given number_of seconds ≡ Some checking.max_ahead
-  pub line : IsOptionLine (codes "check") words
-      (given_values ((codes "config", checking.config) ∷ (codes "token-dir", checking.token_dir)
-      ∷ (codes "store", checking.store) ∷ (codes "bind", bind) ∷ (codes "port", port)
-      ∷ (codes "max-ahead", seconds) ∷ []))
-
--- the arguments are `why` with this datagram, with options whose texts say this
-pub record IsWhyLine (words : List Text) (explaining : Explaining) : Type 0 where
-  pub digits : Text
-  pub dates : number_of digits ≡ Some explaining.at
-  pub has_store : not explaining.live || is_some explaining.store ≡ true
-  pub line : IsLineAround (codes "why") explaining.hex words
-      (listing_options explaining.config explaining.token_dir explaining.store digits
-      explaining.live)
-
--- the arguments are `serve`, with options whose texts say this, and with the flag if replies are
--- mirrored
-pub record IsServeLine (words : List Text) (serving : Serving) : Type 0 where
-  pub bind : Option Text
-  pub port : Option Text
-  pub client_port : Option Text
-  pub digits : Text
-  pub broadcast_as : Option Text
-  pub seconds : Option Text
-  pub listens : listening_of bind port client_port broadcast_as serving.listening.mirror
-      ≡ Some serving.listening
-  pub counts : number_of digits ≡ Some serving.count
-  pub bounds : read_if_given number_of seconds ≡ Some serving.max_ahead
-  pub line : IsOptionLine (codes "serve") words
-      (given_values ((codes "config", serving.config) ∷ (codes "token-dir", serving.token_dir)
-      ∷ (codes "store", serving.store) ∷ (codes "bind", bind) ∷ (codes "port", port)
-      ∷ (codes "client-port", client_port) ∷ (codes "count", Some digits)
-      ∷ (codes "broadcast-as", broadcast_as) ∷ (codes "record", serving.journal)
-      ∷ (codes "max-ahead", seconds) ∷ [])
-      ++ flag_given (codes "mirror") serving.listening.mirror)
+-- the text of a name: its value, `true` for a flag that is given, `false` for a flag that is not
+abbrev pub text_in : List Parameter → List (Text × Option Text) → Text → Option Text
+text_in parameters given name = text_or
+    (if list_any (λ flag. bytes_eq flag name) (flag_names parameters) then Some (codes "false")
+    else None)
+    (value_given name given)
 
 -- the arguments are a line that asks for this
-abbrev pub IsLine : List Text → Asked → Type 0
-IsLine words (shows hex names) =
-    IsLineAround (codes "show") hex words (flag_given (codes "names") names)
-IsLine words (types text) = IsLineOf (codes "expr") words (text ∷ [])
-IsLine words (compiles text) = IsLineOf (codes "compile") words (text ∷ [])
-IsLine words (verifies hex) = IsLineOf (codes "verify") words (hex ∷ [])
-IsLine words (evaluates program datagram) = IsLineOf (codes "eval") words (program ∷ datagram ∷ [])
-IsLine words (tests text datagram) = IsFlaggedLine (codes "eval") words (text ∷ datagram ∷ [])
-IsLine words (replays config token_dir store why) =
-    (digits : Option Text) × (read_if_given event_line_of digits ≡ Some why)
-    × IsOptionLine (codes "replay") words
-    (given_values ((codes "config", config) ∷ (codes "token-dir", token_dir)
-    ∷ (codes "store", store) ∷ (codes "why", digits) ∷ []))
-IsLine words (lists listing config token_dir store moment) =
-    (digits : Text) × (number_of digits ≡ Some moment)
-    × IsListingLine words listing (listing_options config token_dir store digits false)
-IsLine words (looks listing config token_dir store moment) =
-    (digits : Text) × (number_of digits ≡ Some moment)
-    × IsListingLine words listing (listing_options config token_dir (Some store) digits true)
-IsLine words (explains explaining) = IsWhyLine words explaining
-IsLine words (imports store) =
-    IsOptionLine (codes "import") words ((codes "store", Some store) ∷ [])
-IsLine words (filters bytes number) = IsEventsLine words bytes number
-IsLine words (checks checking) = IsCheckLine words checking
-IsLine words (serves serving) = IsServeLine words serving
+pub record IsLine (words : List Text) (asked : Asked) : Type 0 where
+  pub name : Text
+  pub parameters : List Parameter
+  pub behind : List Text
+  pub given : List (Text × Option Text)
+  pub listed : IsOneOf (name, parameters) subcommand_table
+  pub words_are : words ≡ name ∷ behind
+  pub gives : Give parameters (text_names parameters) behind given
+  pub once : IsDistinct bytes_eq (keys_of given)
+  pub required : AllByRecursion (λ it. IsOneOf it (keys_of given)) (required_names parameters)
+  pub asks : asked_by name (text_in parameters given) ≡ Some asked
 
--- the names of the subcommands
-abbrev pub subcommands : List Text
-subcommands =
-    codes "show" ∷ codes "expr" ∷ codes "compile" ∷ codes "verify" ∷ codes "eval" ∷ codes "replay"
-    ∷ codes "leases" ∷ codes "pools" ∷ codes "why" ∷ codes "import" ∷ codes "events"
-    ∷ codes "check" ∷ codes "serve" ∷ []
+-- ---- help and the version
 
 -- the flag that asks for help
 abbrev pub IsHelpFlag : Text → Type 0
@@ -220,7 +136,7 @@ IsHelpFlag word = (word ≡ codes "--help") ⊎ (word ≡ codes "-h")
 abbrev pub IsHelpLine : List Text → Type 0
 IsHelpLine [] = ⊥
 IsHelpLine (word ∷ []) = IsHelpFlag word
-IsHelpLine (word ∷ next ∷ behind) = IsHelpFlag word ⊎ (IsOneOf word subcommands × IsHelpFlag next)
+IsHelpLine (word ∷ next ∷ behind) = IsHelpFlag word ⊎ (IsOneOf word (keys_of subcommand_table) × IsHelpFlag next)
 
 -- the flag that asks for the version
 abbrev pub IsVersionFlag : Text → Type 0

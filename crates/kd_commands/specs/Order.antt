@@ -1,12 +1,13 @@
--- The orders of the command line, over what the crate `clap` makes of a command line and arguments:
--- the command line itself, which arguments give which order, and the numbers of the faults.
-use Rattle.std.specs.Prelude.{◌≡◌, ◌≢◌, ◌⊎◌, ◌+◌, ◌*◌, ◌^◌, ◌||◌, ℕ, Bool, true, false, not, List, []}
+-- The orders of the command line: the table of its subcommands and their parameters, the command
+-- line that the crate `clap` reads by it, which arguments give which order over what `clap` makes of
+-- them, and the numbers of the faults.
+use Rattle.std.specs.Prelude.{◌≡◌, ◌≢◌, ◌⊎◌, ◌+◌, ◌*◌, ◌^◌, ◌||◌, ◌++◌, ℕ, Bool, true, false, not, List, [], ◌∷◌, fold, map}
 use Rattle.std.specs.Prelude.{Option, Some, None, is_some, Result, Ok, Err, codes, option_and_then, option_map, if◌then◌else◌}
 use Rattle.std.specs.Option.{option_map_or}
 use Rattle.std.specs.Str.{bytes_eq}
 use Rattle.std.specs.String.{string_bytes}
 use Rattle.clap.specs.Words.{App, IsAmong, Row, Rule, Text, fault_of, first_of, new_app, new_rule}
-use Rattle.clap.specs.Words.{subcommand_of, with_rule, with_subcommand}
+use Rattle.clap.specs.Words.{subcommand_of, with_subcommand}
 use Rattle.clap.specs.Simple.{on_top}
 use Rattle.clap.specs.declared.builder.action.ArgAction.TheVariants.{Set, SetTrue}
 use Rattle.clap.specs.declared.error.kind.ErrorKind.{ErrorKind}
@@ -15,19 +16,79 @@ use Rattle.kd_commands.specs.declared.fault.LineFault.{LineFault}
 use Rattle.kd_commands.specs.declared.fault.LineFault.TheVariants.{CommandLine, Memory}
 use Rattle.kd_wire.specs.Steps.{◌>>=◌}
 use Rattle.kd_commands.specs.Values.{address_of, event_line_of, hardware_of, number_of, port_of, read_if_given, read_or}
+use Rattle.kd_commands.specs.declared.orders.Files.{Files}
 use Rattle.kd_commands.specs.declared.orders.Listening.{Listening}
-use Rattle.kd_commands.specs.declared.orders.Listing.{Listing}
-use Rattle.kd_commands.specs.declared.orders.Listing.TheVariants.{Leases, Metrics, Pools}
+use Rattle.kd_commands.specs.declared.orders.Place.{Place}
 use Rattle.kd_commands.specs.declared.orders.Order.{Order}
-use Rattle.kd_commands.specs.declared.orders.Order.TheVariants.{Help, Version, Show, Expr, Compile, Verify, Eval, EvalText, Replay}
-use Rattle.kd_commands.specs.declared.orders.Order.TheVariants.{Check, Events, Import, Look, Serve, Why, List as ListOrder}
+use Rattle.kd_commands.specs.declared.orders.Order.TheVariants.{Help, Version, Show, Expr, Compile, Verify, Eval, EvalText}
+use Rattle.kd_commands.specs.declared.orders.Order.TheVariants.{Check, Events, Import, Over}
+use Rattle.kd_commands.specs.declared.orders.View.{View}
+use Rattle.kd_commands.specs.declared.orders.View.TheVariants.{Leases, Metrics, Pools, Why}
+use Rattle.kd_commands.specs.declared.orders.Work.{Work}
+use Rattle.kd_commands.specs.declared.orders.Work.TheVariants.{Explain, Replay, Serve, Show as ShowView}
 
 -- the number that a fault is printed with
 abbrev pub line_fault_number : LineFault → ℕ
 line_fault_number CommandLine = 98
 line_fault_number Memory = 91
 
--- ---- the command line
+-- ---- the table of subcommands
+
+-- a parameter of a subcommand, by its name
+pub data Parameter : Type 0 where
+  -- a text, which is required: the first is for the first such parameter, and so on
+  needs_text : Text → Parameter
+  -- a flag, `--name`
+  takes_flag : Text → Parameter
+  -- an option, `--name value`
+  takes_value : Text → Parameter
+  -- an option that is required
+  needs_value : Text → Parameter
+
+-- the parameters of a subcommand over files
+abbrev pub file_parameters : List Parameter
+file_parameters =
+    takes_value (codes "config") ∷ takes_value (codes "token-dir") ∷ takes_value (codes "store")
+    ∷ []
+
+-- the parameters of a subcommand that prints a view of a store at a time
+abbrev pub view_parameters : List Parameter
+view_parameters =
+    file_parameters ++ takes_flag (codes "live") ∷ needs_value (codes "at") ∷ []
+
+-- each subcommand by its name, with its parameters
+abbrev pub subcommand_table : List (Text × List Parameter)
+subcommand_table =
+    (codes "show", takes_flag (codes "names") ∷ needs_text (codes "HEX") ∷ [])
+    ∷ (codes "expr", needs_text (codes "TEXT") ∷ [])
+    ∷ (codes "compile", needs_text (codes "TEXT") ∷ [])
+    ∷ (codes "verify", needs_text (codes "HEX") ∷ [])
+    ∷ (
+      codes "eval",
+      takes_flag (codes "text") ∷ needs_text (codes "PROGRAM")
+          ∷ needs_text (codes "DATAGRAM") ∷ [],
+    )
+    ∷ (codes "replay", file_parameters ++ takes_value (codes "why") ∷ [])
+    ∷ (codes "leases", view_parameters)
+    ∷ (codes "pools", view_parameters ++ takes_flag (codes "prometheus") ∷ [])
+    ∷ (codes "why", view_parameters ++ needs_text (codes "HEX") ∷ [])
+    ∷ (codes "import", needs_value (codes "store") ∷ [])
+    ∷ (codes "events", takes_value (codes "mac") ∷ takes_value (codes "address") ∷ [])
+    ∷ (
+      codes "check",
+      file_parameters ++ takes_value (codes "bind") ∷ takes_value (codes "port")
+          ∷ takes_value (codes "max-ahead") ∷ [],
+    )
+    ∷ (
+      codes "serve",
+      file_parameters ++ takes_value (codes "bind") ∷ takes_value (codes "port")
+          ∷ takes_value (codes "client-port") ∷ needs_value (codes "count")
+          ∷ takes_value (codes "broadcast-as") ∷ takes_flag (codes "mirror")
+          ∷ takes_value (codes "record") ∷ takes_value (codes "max-ahead") ∷ [],
+    )
+    ∷ []
+
+-- ---- the command line of `clap`
 
 -- a required argument
 abbrev pub needed_rule : Text → Rule
@@ -45,88 +106,17 @@ value_rule name = record (new_rule name) { long = Some name; action = Some Set; 
 abbrev pub needed_value : Text → Rule
 needed_value name = record (value_rule name) { required = true }
 
--- a subcommand with one required argument
-abbrev pub text_line : Text → Text → App
-text_line name id = with_rule (new_app name) (needed_rule id)
+-- what a parameter is to `clap`
+abbrev pub parameter_rule : Parameter → Rule
+parameter_rule (needs_text name) = needed_rule name
+parameter_rule (takes_flag name) = flag_rule name
+parameter_rule (takes_value name) = value_rule name
+parameter_rule (needs_value name) = needed_value name
 
--- `show [--names] HEX`
-abbrev pub show_line : App
-show_line = with_rule (with_rule (new_app (codes "show")) (flag_rule (codes "names")))
-    (needed_rule (codes "HEX"))
-
--- `expr TEXT`
-abbrev pub expr_line : App
-expr_line = text_line (codes "expr") (codes "TEXT")
-
--- `compile TEXT`
-abbrev pub compile_line : App
-compile_line = text_line (codes "compile") (codes "TEXT")
-
--- `verify HEX`
-abbrev pub verify_line : App
-verify_line = text_line (codes "verify") (codes "HEX")
-
--- `eval [--text] PROGRAM DATAGRAM`
-abbrev pub eval_line : App
-eval_line =
-    with_rule (with_rule (with_rule (new_app (codes "eval")) (flag_rule (codes "text")))
-    (needed_rule (codes "PROGRAM")))
-    (needed_rule (codes "DATAGRAM"))
-
--- a subcommand over files: `NAME [--config F] [--token-dir D] [--store F]`
-abbrev pub files_line : Text → App
-files_line name =
-    with_rule (with_rule (with_rule (new_app name) (value_rule (codes "config")))
-    (value_rule (codes "token-dir")))
-    (value_rule (codes "store"))
-
--- `replay [--config F] [--token-dir D] [--store F] [--why N]`
-abbrev pub replay_line : App
-replay_line = with_rule (files_line (codes "replay")) (value_rule (codes "why"))
-
--- a subcommand that lists a store: `NAME [--config F] [--token-dir D] [--store F] [--live] --at M`
-abbrev pub listing_line : Text → App
-listing_line name =
-    with_rule (with_rule (files_line name) (flag_rule (codes "live"))) (needed_value (codes "at"))
-
--- `leases [--config F] [--token-dir D] [--store F] [--live] --at M`
-abbrev pub leases_line : App
-leases_line = listing_line (codes "leases")
-
--- `pools [--config F] [--token-dir D] [--store F] [--live] --at M [--prometheus]`
-abbrev pub pools_line : App
-pools_line = with_rule (listing_line (codes "pools")) (flag_rule (codes "prometheus"))
-
--- `why [--config F] [--token-dir D] [--store F] [--live] --at M HEX`
-abbrev pub why_line : App
-why_line = with_rule (listing_line (codes "why")) (needed_rule (codes "HEX"))
-
--- `import --store F`
-abbrev pub import_line : App
-import_line = with_rule (new_app (codes "import")) (needed_value (codes "store"))
-
--- `events [--mac M] [--address A]`
-abbrev pub events_line : App
-events_line = with_rule (with_rule (new_app (codes "events")) (value_rule (codes "mac")))
-    (value_rule (codes "address"))
-
--- `check [--config F] [--token-dir D] [--store F] [--bind A] [--port P] [--max-ahead SECONDS]`
-abbrev pub check_line : App
-check_line =
-    with_rule (with_rule (with_rule (files_line (codes "check")) (value_rule (codes "bind")))
-    (value_rule (codes "port")))
-    (value_rule (codes "max-ahead"))
-
--- `serve [--config F] [--token-dir D] [--store F] [--bind A] [--port P] [--client-port Q] --count N
--- [--broadcast-as A] [--mirror] [--record F] [--max-ahead SECONDS]`
-abbrev pub serve_line : App
-serve_line =
-    with_rule (with_rule (with_rule (with_rule
-    (with_rule (with_rule
-    (with_rule (with_rule (files_line (codes "serve")) (value_rule (codes "bind")))
-    (value_rule (codes "port"))) (value_rule (codes "client-port"))) (needed_value (codes "count")))
-    (value_rule (codes "broadcast-as"))) (flag_rule (codes "mirror")))
-    (value_rule (codes "record"))) (value_rule (codes "max-ahead"))
+-- a subcommand of the table to `clap`
+abbrev pub subcommand_line : Text × List Parameter → App
+subcommand_line entry =
+    on_top (λ s. record s { rules = map parameter_rule entry.1 }) (new_app entry.0)
 
 -- the program: its arguments do not include its name, it has a flag for its version, and it
 -- requires a subcommand
@@ -135,57 +125,36 @@ program_line =
     on_top (λ s. record s { has_version = true; no_binary_name = true; subcommand_required = true })
     (new_app (codes "kdhcp"))
 
--- the command line up to its subcommands of one text
-abbrev pub tools_line : App
-tools_line =
-    with_subcommand (with_subcommand
-    (with_subcommand (with_subcommand program_line show_line.top) expr_line.top) compile_line.top)
-    verify_line.top
+-- a command line with one more subcommand
+abbrev pub with_entry : App → Text × List Parameter → App
+with_entry line entry = with_subcommand line (subcommand_line entry).top
 
 -- the whole command line
 abbrev pub command_line : App
-command_line =
-    with_subcommand (with_subcommand
-    (with_subcommand (with_subcommand
-    (with_subcommand (with_subcommand
-    (with_subcommand (with_subcommand
-    (with_subcommand tools_line eval_line.top) replay_line.top) leases_line.top)
-    pools_line.top) why_line.top) import_line.top) events_line.top) check_line.top)
-    serve_line.top
+command_line = fold with_entry program_line subcommand_table
 
 -- ---- what the arguments ask for
 
--- what `check` is asked to do
-pub record Checking : Type 0 where
-  -- the configuration file, the folder of the token files and the lease file, if they are given
+-- the paths of the configuration file, the folder of the token files and the lease file, if they
+-- are given
+pub record Paths : Type 0 where
   pub config : Option Text
   pub token_dir : Option Text
   pub store : Option Text
-  -- the address and the port of the socket
-  pub bind : ℕ
-  pub port : ℕ
-  -- how many seconds the clock may run ahead, if a limit is given
-  pub max_ahead : Option ℕ
 
--- what `why` is asked to do
-pub record Explaining : Type 0 where
-  -- the configuration file, the folder of the token files and the lease file, if they are given
-  pub config : Option Text
-  pub token_dir : Option Text
-  pub store : Option Text
-  -- whether another process may have the lease file open
-  pub live : Bool
-  -- the time of the datagram
-  pub at : ℕ
-  -- the text of the datagram
-  pub hex : Text
+-- what is printed of the leases of a store
+pub data Sight : Type 0 where
+  -- the leases, one line each
+  leases : Sight
+  -- how full the pools are
+  pools : Sight
+  -- how full the pools are, as metrics
+  metrics : Sight
+  -- what answer the datagram in this text gets, and why
+  answers : Text → Sight
 
--- what `serve` is asked to do
+-- how datagrams of a socket are served
 pub record Serving : Type 0 where
-  -- the configuration file, the folder of the token files and the lease file, if they are given
-  pub config : Option Text
-  pub token_dir : Option Text
-  pub store : Option Text
   -- the address of the socket, and where replies go
   pub listening : Listening
   -- the number of datagrams to serve
@@ -194,6 +163,17 @@ pub record Serving : Type 0 where
   pub journal : Option Text
   -- how many seconds the clock may run ahead, if a limit is given
   pub max_ahead : Option ℕ
+
+-- what is done over a configuration and a store
+pub data Task : Type 0 where
+  -- a replay of the events of standard input
+  replays : Task
+  -- an explanation of the event of this line
+  explains : ℕ → Task
+  -- this view of the leases at this time; whether another process may have the lease file open
+  prints : Sight → ℕ → Bool → Task
+  -- serving datagrams of a socket
+  serves : Serving → Task
 
 -- what a subcommand asks for
 pub data Asked : Type 0 where
@@ -209,181 +189,150 @@ pub data Asked : Type 0 where
   evaluates : Text → Text → Asked
   -- the run of the program of the class test in the first text over the datagram in the second
   tests : Text → Text → Asked
-  -- a replay of the events of standard input, with the configuration file, the folder of the token
-  -- files and the lease file, if they are given, and with the line of the event to explain, if
-  -- there is one
-  replays : Option Text → Option Text → Option Text → Option ℕ → Asked
-  -- this listing of the store at this time, with the same files
-  lists : Listing → Option Text → Option Text → Option Text → ℕ → Asked
-  -- the same for the store in this file, which another process may have open
-  looks : Listing → Option Text → Option Text → Text → ℕ → Asked
-  -- what answer one datagram gets, and why
-  explains : Explaining → Asked
+  -- work over the files with these paths
+  works : Paths → Task → Asked
   -- an import of the lines of leases on standard input into the store in this file
   imports : Text → Asked
   -- the lines of a log on standard input, printed for people: those for the hardware address with
   -- these bytes and for this address, if they are given
   filters : Option (List ℕ) → Option ℕ → Asked
-  -- a trial of each step of a start, without serving
-  checks : Checking → Asked
-  -- serving datagrams of a socket
-  serves : Serving → Asked
+  -- a trial of each step of a start, without serving, at a socket
+  checks : Paths → Place → Asked
 
--- whether a flag was given, from its value
+-- The texts of a subcommand's parameters are a function of their names: the text that is given, or
+-- `true` or `false` for a flag.
+
+-- whether a flag was given, from its text
 abbrev pub flag_is_given : Option Text → Bool
 flag_is_given value = option_map_or (λ v. bytes_eq v (codes "true")) value false
 
--- what `show` is asked to do by a text, if it is given, and by the flag's value
-abbrev pub showing_of : Option Text → Option Text → Option Asked
-showing_of value hex = option_map (λ text. shows text (flag_is_given value)) hex
+-- the paths in these texts
+abbrev pub paths_of : (Text → Option Text) → Paths
+paths_of text = record {
+  config = text (codes "config");
+  token_dir = text (codes "token-dir");
+  store = text (codes "store");
+}
 
--- what `eval` is asked to do by two texts, if both are given, and by the flag's value
-abbrev pub evaluation_of : Option Text → Option Text → Option Text → Option Asked
-evaluation_of value program datagram =
-    option_and_then (λ p. option_map
-    (λ d. if flag_is_given value then tests p d else evaluates p d) datagram) program
+-- what `show` is asked to do
+abbrev pub showing_of : (Text → Option Text) → Option Asked
+showing_of text = option_map (λ hex. shows hex (flag_is_given (text (codes "names"))))
+    (text (codes "HEX"))
 
--- what `replay` is asked to do with these files, if the text for a line number, when given, is one
-abbrev pub replaying_of : Option Text → Option Text → Option Text → Option Text → Option Asked
-replaying_of config token_dir store why =
-    option_map (λ line. replays config token_dir store line) (read_if_given event_line_of why)
+-- what `eval` is asked to do
+abbrev pub evaluation_of : (Text → Option Text) → Option Asked
+evaluation_of text = do
+  program ← text (codes "PROGRAM")
+  datagram ← text (codes "DATAGRAM")
+  Some (if flag_is_given (text (codes "text")) then tests program datagram
+      else evaluates program datagram)
 
--- what is asked with these files at a time: a listing; or, with the flag `--live`, a listing of a
--- store that another process may have open, if its file is given
-abbrev pub listing_at : Listing → Option Text → Option Text → Option Text → Bool → ℕ
-    → Option Asked
-listing_at listing config token_dir store live moment =
-    if live then option_map (λ file. looks listing config token_dir file moment) store
-    else Some (lists listing config token_dir store moment)
+-- a replay, or the explanation of the event of a line
+abbrev pub replay_of : Option ℕ → Task
+replay_of None = replays
+replay_of (Some line) = explains line
 
--- the same at the time in a text, if the text is given and is a number
-abbrev pub listing_of : Listing → Option Text → Option Text → Option Text → Bool → Option Text
-    → Option Asked
-listing_of listing config token_dir store live at =
-    option_and_then (λ moment. listing_at listing config token_dir store live moment)
-    (option_and_then (λ text. number_of text) at)
+-- what `replay` is asked to do, if the text for a line number, when given, is one
+abbrev pub replaying_of : (Text → Option Text) → Option Asked
+replaying_of text = option_map (λ line. works (paths_of text) (replay_of line))
+    (read_if_given event_line_of (text (codes "why")))
 
--- what `pools` prints, by the value of its flag `--prometheus`
-abbrev pub pools_listing : Option Text → Listing
-pools_listing value = if flag_is_given value then Metrics else Pools
+-- what is asked with these paths for a view at a time: the lease file is needed if another process
+-- may have it open
+abbrev pub view_with : Paths → Sight → ℕ → Bool → Option Asked
+view_with paths sight moment live =
+    if not live || is_some paths.store then Some (works paths (prints sight moment live)) else None
 
--- what is asked of `why`, which needs the lease file if another process may have it open
-abbrev pub explaining_with : Explaining → Option Asked
-explaining_with explaining =
-    if not explaining.live || is_some explaining.store then Some (explains explaining) else None
-
--- what `why` is asked to do by these texts of the arguments, if the time and the datagram are given
--- and the time is a number
-abbrev pub explaining_of : (Text → Option Text) → Option Asked
-explaining_of text = do
+-- what `leases`, `pools` and `why` are asked to do, by what is printed
+abbrev pub viewing_of : Sight → (Text → Option Text) → Option Asked
+viewing_of sight text = do
   digits ← text (codes "at")
   moment ← number_of digits
-  datagram ← text (codes "HEX")
-  explaining_with (record {
-    config = text (codes "config");
-    token_dir = text (codes "token-dir");
-    store = text (codes "store");
-    live = flag_is_given (text (codes "live"));
-    at = moment;
-    hex = datagram;
-  })
+  view_with (paths_of text) sight moment (flag_is_given (text (codes "live")))
+
+-- what `pools` prints, by the text of its flag `--prometheus`
+abbrev pub pools_sight : Option Text → Sight
+pools_sight value = if flag_is_given value then metrics else pools
+
+-- what `why` is asked to do
+abbrev pub answering_of : (Text → Option Text) → Option Asked
+answering_of text = do
+  hex ← text (codes "HEX")
+  viewing_of (answers hex) text
 
 -- 127.0.0.1
 abbrev pub loopback : ℕ
 loopback = 127 * 2 ^ 24 + 1
 
--- where the socket is and where replies go, from the texts of the options and the flag, if each
--- text that is given is in range; by default the address is 127.0.0.1, the port 67, the clients'
--- port 68, and 255.255.255.255 is used as it is
-abbrev pub listening_of : Option Text → Option Text → Option Text → Option Text → Bool
-    → Option Listening
-listening_of bind port client_port broadcast_as mirror = do
-  address ← read_or address_of loopback bind
-  own ← read_or port_of 67 port
-  clients ← read_or port_of 68 client_port
-  everyone ← read_if_given address_of broadcast_as
-  Some (record { bind = address; port = own; client_port = clients; broadcast_as = everyone; mirror = mirror })
+-- where the socket is and where replies go, if each text that is given is in range; by default the
+-- address is 127.0.0.1, the port 67, the clients' port 68, and 255.255.255.255 is used as it is
+abbrev pub listening_of : (Text → Option Text) → Option Listening
+listening_of text = do
+  address ← read_or address_of loopback (text (codes "bind"))
+  own ← read_or port_of 67 (text (codes "port"))
+  clients ← read_or port_of 68 (text (codes "client-port"))
+  everyone ← read_if_given address_of (text (codes "broadcast-as"))
+  Some (record {
+    bind = address;
+    port = own;
+    client_port = clients;
+    broadcast_as = everyone;
+    mirror = flag_is_given (text (codes "mirror"));
+  })
 
--- what `events` is asked to do by these texts, if each that is given is well formed
-abbrev pub filtering_of : Option Text → Option Text → Option Asked
-filtering_of mac address = do
-  bytes ← read_if_given hardware_of mac
-  number ← read_if_given address_of address
+-- what `events` is asked to do, if each text that is given is well formed
+abbrev pub filtering_of : (Text → Option Text) → Option Asked
+filtering_of text = do
+  bytes ← read_if_given hardware_of (text (codes "mac"))
+  number ← read_if_given address_of (text (codes "address"))
   Some (filters bytes number)
 
--- what `check` is asked to do by these texts of the options, if each that is given is in range; by
--- default the address is 127.0.0.1 and the port 67
+-- what `check` is asked to do, if each text that is given is in range; by default the address is
+-- 127.0.0.1 and the port 67
 abbrev pub checking_of : (Text → Option Text) → Option Asked
 checking_of text = do
   address ← read_or address_of loopback (text (codes "bind"))
   own ← read_or port_of 67 (text (codes "port"))
   seconds ← read_if_given number_of (text (codes "max-ahead"))
-  Some (checks (record {
-    config = text (codes "config");
-    token_dir = text (codes "token-dir");
-    store = text (codes "store");
-    bind = address;
-    port = own;
-    max_ahead = seconds;
-  }))
+  Some (checks (paths_of text) (record { bind = address; port = own; max_ahead = seconds }))
 
--- what `serve` is asked to do by these texts of the options, if each that is given is in range and
--- the count is given
+-- what `serve` is asked to do, if each text that is given is in range and the count is given
 abbrev pub serving_of : (Text → Option Text) → Option Asked
 serving_of text = do
-  listening ← listening_of (text (codes "bind")) (text (codes "port")) (text (codes "client-port"))
-      (text (codes "broadcast-as")) (flag_is_given (text (codes "mirror")))
+  listening ← listening_of text
   digits ← text (codes "count")
   count ← number_of digits
   seconds ← read_if_given number_of (text (codes "max-ahead"))
-  Some (serves (record {
-    config = text (codes "config");
-    token_dir = text (codes "token-dir");
-    store = text (codes "store");
+  Some (works (paths_of text) (serves (record {
     listening = listening;
     count = count;
     journal = text (codes "record");
     max_ahead = seconds;
-  }))
+  })))
 
--- what the subcommand of this name asks for, with these matches
-abbrev pub asked_by : Text → List Row → Option Asked
-asked_by name rows =
-    if bytes_eq name (codes "show")
-    then showing_of (first_of (codes "names") rows) (first_of (codes "HEX") rows)
-    else (if bytes_eq name (codes "expr") then option_map (λ text. types text)
-    (first_of (codes "TEXT") rows)
-    else (if bytes_eq name (codes "compile") then option_map (λ text. compiles text)
-    (first_of (codes "TEXT") rows)
-    else (if bytes_eq name (codes "verify") then option_map (λ hex. verifies hex)
-    (first_of (codes "HEX") rows)
-    else (if bytes_eq name (codes "eval")
-    then evaluation_of (first_of (codes "text") rows) (first_of (codes "PROGRAM") rows)
-    (first_of (codes "DATAGRAM") rows)
-    else (if bytes_eq name (codes "replay")
-    then replaying_of (first_of (codes "config") rows) (first_of (codes "token-dir") rows)
-    (first_of (codes "store") rows) (first_of (codes "why") rows)
-    else (if bytes_eq name (codes "leases")
-    then listing_of Leases (first_of (codes "config") rows) (first_of (codes "token-dir") rows)
-    (first_of (codes "store") rows) (flag_is_given (first_of (codes "live") rows))
-    (first_of (codes "at") rows)
-    else (if bytes_eq name (codes "pools")
-    then listing_of (pools_listing (first_of (codes "prometheus") rows))
-    (first_of (codes "config") rows) (first_of (codes "token-dir") rows)
-    (first_of (codes "store") rows) (flag_is_given (first_of (codes "live") rows))
-    (first_of (codes "at") rows)
-    else (if bytes_eq name (codes "why") then explaining_of (λ option. first_of option rows)
+-- what the subcommand of this name asks for with these texts
+abbrev pub asked_by : Text → (Text → Option Text) → Option Asked
+asked_by name text =
+    if bytes_eq name (codes "show") then showing_of text
+    else (if bytes_eq name (codes "expr") then option_map (λ t. types t) (text (codes "TEXT"))
+    else (if bytes_eq name (codes "compile") then option_map (λ t. compiles t) (text (codes "TEXT"))
+    else (if bytes_eq name (codes "verify") then option_map (λ hex. verifies hex) (text (codes "HEX"))
+    else (if bytes_eq name (codes "eval") then evaluation_of text
+    else (if bytes_eq name (codes "replay") then replaying_of text
+    else (if bytes_eq name (codes "leases") then viewing_of leases text
+    else (if bytes_eq name (codes "pools") then viewing_of
+    (pools_sight (text (codes "prometheus"))) text
+    else (if bytes_eq name (codes "why") then answering_of text
     else (if bytes_eq name (codes "import")
-    then option_map (λ store. imports store) (first_of (codes "store") rows)
-    else (if bytes_eq name (codes "events")
-    then filtering_of (first_of (codes "mac") rows) (first_of (codes "address") rows)
-    else (if bytes_eq name (codes "check") then checking_of (λ option. first_of option rows)
-    else (if bytes_eq name (codes "serve") then serving_of (λ option. first_of option rows)
+    then option_map (λ store. imports store) (text (codes "store"))
+    else (if bytes_eq name (codes "events") then filtering_of text
+    else (if bytes_eq name (codes "check") then checking_of text
+    else (if bytes_eq name (codes "serve") then serving_of text
     else None))))))))))))
 
--- the same for the subcommand that was entered, if any
+-- the same for the subcommand that was entered, if any, with its matches
 abbrev pub asked_of : Option (Text × List Row) → Option Asked
-asked_of = option_and_then (λ p. asked_by p.0 p.1)
+asked_of = option_and_then (λ entered. asked_by entered.0 (λ name. first_of name entered.1))
 
 -- `clap` finds no fault in the arguments, and their subcommand asks for this
 pub record Asks (words : List Text) (asked : Asked) : Type 0 where
@@ -412,65 +361,37 @@ IsMistake words =
     × (kind ≢ DisplayVersion))
     ⊎ AsksNothing words
 
--- the arguments ask for this order
-abbrev pub AsksFor : List Text → Order → Type 0
-AsksFor words (Help text) = IsHelp words
-AsksFor words Version = IsVersion words
-AsksFor words (Show hex names) = Asks words (shows (string_bytes hex) names)
-AsksFor words (Expr text) = Asks words (types (string_bytes text))
-AsksFor words (Compile text) = Asks words (compiles (string_bytes text))
-AsksFor words (Verify hex) = Asks words (verifies (string_bytes hex))
-AsksFor words (Eval program datagram) =
-    Asks words (evaluates (string_bytes program) (string_bytes datagram))
-AsksFor words (EvalText text datagram) =
-    Asks words (tests (string_bytes text) (string_bytes datagram))
-AsksFor words (Replay files why) = Asks words
-    (replays (option_map string_bytes files.config) (option_map string_bytes files.token_dir)
-    (option_map string_bytes files.store) why)
-AsksFor words (ListOrder listing files at) = Asks words
-    (lists listing (option_map string_bytes files.config) (option_map string_bytes files.token_dir)
-    (option_map string_bytes files.store) at)
-AsksFor words (Look listing config token_dir store at) = Asks words
-    (looks listing (option_map string_bytes config) (option_map string_bytes token_dir)
-    (string_bytes store) at)
-AsksFor words (Why files live at hex) =
-    Asks words (explains (record {
-      config = option_map string_bytes files.config;
-      token_dir = option_map string_bytes files.token_dir;
-      store = option_map string_bytes files.store;
-      live = live;
-      at = at;
-      hex = string_bytes hex;
-    }))
-AsksFor words (Import store) = Asks words (imports (string_bytes store))
-AsksFor words (Events mac address) =
-    Asks words (filters (option_map (λ bytes. bytes.items) mac) address)
-AsksFor words (Check files bind port max_ahead) =
-    Asks words (checks (record {
-      config = option_map string_bytes files.config;
-      token_dir = option_map string_bytes files.token_dir;
-      store = option_map string_bytes files.store;
-      bind = bind;
-      port = port;
-      max_ahead = max_ahead;
-    }))
-AsksFor words (Serve files listening count journal max_ahead) =
-    Asks words (serves (record {
-      config = option_map string_bytes files.config;
-      token_dir = option_map string_bytes files.token_dir;
-      store = option_map string_bytes files.store;
-      listening = listening;
-      count = count;
-      journal = option_map string_bytes journal;
-      max_ahead = max_ahead;
-    }))
+-- ---- what an order gives
 
--- the arguments have this fault; memory may run out for any arguments
-abbrev pub HasFault : List Text → LineFault → Type 0
-HasFault words CommandLine = IsMistake words
-HasFault words Memory = Unit {0}
+-- the paths of files
+abbrev pub paths_in : Files → Paths
+paths_in files = record {
+  config = option_map string_bytes files.config;
+  token_dir = option_map string_bytes files.token_dir;
+  store = option_map string_bytes files.store;
+}
 
--- what a subcommand can ask for that this order gives
+-- what a view prints
+abbrev pub sight_of : View → Sight
+sight_of Leases = leases
+sight_of Pools = pools
+sight_of Metrics = metrics
+sight_of (Why hex) = answers (string_bytes hex)
+
+-- what a subcommand can ask for that this work over these files is
+abbrev pub working_of : Files → Work → Option Asked
+working_of files Replay = Some (works (paths_in files) replays)
+working_of files (Explain line) = Some (works (paths_in files) (explains line))
+working_of files (ShowView view at live) = view_with (paths_in files) (sight_of view) at live
+working_of files (Serve service) = Some (works (paths_in files) (serves (record {
+  listening = service.listening;
+  count = service.count;
+  journal = option_map string_bytes service.journal;
+  max_ahead = service.max_ahead;
+})))
+
+-- what a subcommand can ask for that this order gives: nothing if it is a view of a store that
+-- another process may have open, without the path of the store
 abbrev pub given_by : Order → Option Asked
 given_by (Help text) = None
 given_by Version = None
@@ -480,45 +401,26 @@ given_by (Compile text) = Some (compiles (string_bytes text))
 given_by (Verify hex) = Some (verifies (string_bytes hex))
 given_by (Eval program datagram) = Some (evaluates (string_bytes program) (string_bytes datagram))
 given_by (EvalText text datagram) = Some (tests (string_bytes text) (string_bytes datagram))
-given_by (Replay files why) = Some
-    (replays (option_map string_bytes files.config) (option_map string_bytes files.token_dir)
-    (option_map string_bytes files.store) why)
-given_by (ListOrder listing files at) = Some
-    (lists listing (option_map string_bytes files.config) (option_map string_bytes files.token_dir)
-    (option_map string_bytes files.store) at)
-given_by (Look listing config token_dir store at) = Some
-    (looks listing (option_map string_bytes config) (option_map string_bytes token_dir)
-    (string_bytes store) at)
-given_by (Why files live at hex) =
-    Some (explains (record {
-      config = option_map string_bytes files.config;
-      token_dir = option_map string_bytes files.token_dir;
-      store = option_map string_bytes files.store;
-      live = live;
-      at = at;
-      hex = string_bytes hex;
-    }))
+given_by (Over files work) = working_of files work
 given_by (Import store) = Some (imports (string_bytes store))
 given_by (Events mac address) = Some (filters (option_map (λ bytes. bytes.items) mac) address)
-given_by (Check files bind port max_ahead) =
-    Some (checks (record {
-      config = option_map string_bytes files.config;
-      token_dir = option_map string_bytes files.token_dir;
-      store = option_map string_bytes files.store;
-      bind = bind;
-      port = port;
-      max_ahead = max_ahead;
-    }))
-given_by (Serve files listening count journal max_ahead) =
-    Some (serves (record {
-      config = option_map string_bytes files.config;
-      token_dir = option_map string_bytes files.token_dir;
-      store = option_map string_bytes files.store;
-      listening = listening;
-      count = count;
-      journal = option_map string_bytes journal;
-      max_ahead = max_ahead;
-    }))
+given_by (Check files place) = Some (checks (paths_in files) place)
+
+-- the arguments ask for what is given, if anything is
+abbrev pub AsksGiven : List Text → Option Asked → Type 0
+AsksGiven words None = ⊥
+AsksGiven words (Some asked) = Asks words asked
+
+-- the arguments ask for this order
+abbrev pub AsksFor : List Text → Order → Type 0
+AsksFor words (Help text) = IsHelp words
+AsksFor words Version = IsVersion words
+AsksFor words order = AsksGiven words (given_by order)
+
+-- the arguments have this fault; memory may run out for any arguments
+abbrev pub HasFault : List Text → LineFault → Type 0
+HasFault words CommandLine = IsMistake words
+HasFault words Memory = Unit {0}
 
 -- the result gives what was asked, or memory ran out
 abbrev pub GivesUnlessFull : Asked → Result Order LineFault → Type 0

@@ -1,7 +1,8 @@
 -- The results of the steps of reading an order, and of those of reading a hardware address.
 use Rattle.std.specs.Prelude.{◌≡◌, ◌≢◌, ◌==◌, ℕ, [], ◌∷◌, Option, Some, None, Result, Ok, Err}
 use Rattle.std.specs.Prelude.{if◌then◌else◌, option_map}
-use Rattle.clap.specs.Words.{Text}
+use Rattle.clap.specs.Words.{Text, first_value, found_of}
+use Rattle.clap.specs.declared.parser.matches.ArgMatches.{ArgMatches}
 use Rattle.clap.specs.declared.error.kind.ErrorKind.{ErrorKind}
 use Rattle.clap.specs.declared.error.kind.ErrorKind.TheVariants.{DisplayHelp, DisplayVersion, OutOfMemory}
 use Rattle.kd_commands.specs.Order.{Asked, GivesUnlessFull}
@@ -15,6 +16,10 @@ use Rattle.kd_commands.specs.declared.orders.Order.TheVariants.{Help, Version}
 abbrev pub IsMistakeUnlessFull : Result Order LineFault → Type 0
 IsMistakeUnlessFull (Ok order) = ⊥
 IsMistakeUnlessFull (Err fault) = Unit {0}
+
+-- the texts of the matches, by the names of the parameters
+abbrev pub matched_texts : ArgMatches → Text → Option Text
+matched_texts matches name = first_value (found_of matches) name
 
 -- if something is asked it is given, and otherwise it is a mistake
 abbrev pub GivesIfThere : Option Asked → Result Order LineFault → Type 0

@@ -1,7 +1,7 @@
 ghost use Rattle.std.specs.Prelude.{◌≡◌, false};
 ghost use Rattle.clap.specs.Words.{rule_of};
-ghost use Rattle.kd_commands.specs.Arguments.{rule_of_argument};
-ghost use Rattle.kd_commands.specs.Order.{flag_rule, needed_rule, needed_value, value_rule};
+ghost use Rattle.kd_commands.specs.Arguments.{parameter_of};
+ghost use Rattle.kd_commands.specs.Order.{flag_rule, needed_rule, needed_value, parameter_rule, value_rule};
 
 use clap::{Arg, ArgAction};
 use std::alloc::Global;
@@ -22,7 +22,7 @@ pub(crate) enum Argument<'a> {
 impl<'a> Argument<'a> {
     // Makes the argument for `clap`.
     pub(crate) fn to_arg(self, alloc: Global) -> Arg<'a>
-        ensures rule { rule_of result ≡ rule_of_argument self.entry }
+        ensures rule { rule_of result ≡ parameter_rule (parameter_of self.entry) }
         ensures local { result.global ≡ false }
     {
         match self {

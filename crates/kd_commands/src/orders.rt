@@ -41,46 +41,12 @@ pub enum Order {
         /// The datagram's bytes, as in the argument.
         datagram: String,
     },
-    /// A replay of the events of standard input.
-    Replay {
-        /// The files to use.
+    /// Work over a configuration and a store of leases.
+    Over {
+        /// The files to use. The path of the lease file is there if the work is a live view.
         files: Files,
-        /// The line of the event to explain instead of handling it, 1 to 1,000,000, if one is
-        /// given.
-        why: Option<u64>,
-    },
-    /// A listing of the leases of a store at a time.
-    List {
-        /// What is printed.
-        listing: Listing,
-        /// The files to use.
-        files: Files,
-        /// The time, in whole seconds.
-        at: u64,
-    },
-    /// The same for a store that another process may have open.
-    Look {
-        /// What is printed.
-        listing: Listing,
-        /// The path of the configuration file, if one is given.
-        config: Option<String>,
-        /// The path of the token files' folder, if one is given.
-        token_dir: Option<String>,
-        /// The path of the lease file.
-        store: String,
-        /// The time, in whole seconds.
-        at: u64,
-    },
-    /// What answer one datagram gets, and why.
-    Why {
-        /// The files to use. The path of the lease file is there if `live` is true.
-        files: Files,
-        /// Whether another process may have the lease file open.
-        live: bool,
-        /// The time of the datagram, in whole seconds.
-        at: u64,
-        /// The datagram's bytes, as in the argument.
-        hex: String,
+        /// What is done.
+        work: Work,
     },
     /// An import of the lines of leases on standard input into a store without leases.
     Import {
@@ -99,25 +65,8 @@ pub enum Order {
     Check {
         /// The files to use.
         files: Files,
-        /// The address of the socket, an IPv4 address in host order.
-        bind: u32,
-        /// The UDP port of the socket, 1 to 65,535.
-        port: u16,
-        /// How many seconds the clock may run ahead, 0 to 2^64 - 1; no limit if none is given.
-        max_ahead: Option<u64>,
-    },
-    /// Serving datagrams of a UDP socket.
-    Serve {
-        /// The files to use.
-        files: Files,
-        /// The address of the socket, and where replies go.
-        listening: Listening,
-        /// The number of datagrams to serve, 0 to 2^64 - 1.
-        count: u64,
-        /// The path of the file to which received datagrams are appended, if one is given.
-        journal: Option<String>,
-        /// How many seconds the clock may run ahead, 0 to 2^64 - 1; no limit if none is given.
-        max_ahead: Option<u64>,
+        /// The socket, and how far the clock may run ahead.
+        place: Place,
     },
 }
 
@@ -132,15 +81,50 @@ pub struct Files {
     pub store: Option<String>,
 }
 
+/// What is done over a configuration and a store of leases.
+#[derive(Drop)]
+pub enum Work {
+    /// The events of standard input are replayed to standard output.
+    Replay,
+    /// The event of a line of standard input, 1 to 1,000,000, is explained instead of handled.
+    Explain(u64),
+    /// A view of the leases is printed.
+    Show {
+        /// What is printed.
+        view: View,
+        /// The time, in whole seconds.
+        at: u64,
+        /// Whether another process may have the lease file open.
+        live: bool,
+    },
+    /// Datagrams of a socket are served.
+    Serve(Service),
+}
+
 /// What to print of a table of leases at a time.
-#[derive(Clone, Copy)]
-pub enum Listing {
+#[derive(Drop)]
+pub enum View {
     /// Its leases, one line each.
     Leases,
     /// How full the pools are.
     Pools,
     /// How full the pools are, as metrics.
     Metrics,
+    /// What answer a datagram gets, and why: the datagram's bytes, as in the argument.
+    Why(String),
+}
+
+/// How datagrams of a socket are served.
+#[derive(Drop)]
+pub struct Service {
+    /// The address of the socket, and where replies go.
+    pub listening: Listening,
+    /// The number of datagrams to serve, 0 to 2^64 - 1.
+    pub count: u64,
+    /// The path of the file to which received datagrams are appended, if one is given.
+    pub journal: Option<String>,
+    /// How many seconds the clock may run ahead, 0 to 2^64 - 1; no limit if none is given.
+    pub max_ahead: Option<u64>,
 }
 
 /// Where datagrams are received, and where replies go.
@@ -156,4 +140,15 @@ pub struct Listening {
     pub broadcast_as: Option<u32>,
     /// Whether each reply goes to the sender of its datagram, whatever the fields of the reply say.
     pub mirror: bool,
+}
+
+/// The socket of a server, and how far the server's clock may run ahead.
+#[derive(Clone, Copy)]
+pub struct Place {
+    /// The address of the socket, an IPv4 address in host order.
+    pub bind: u32,
+    /// The UDP port of the socket, 1 to 65,535.
+    pub port: u16,
+    /// How many seconds the clock may run ahead, 0 to 2^64 - 1; no limit if none is given.
+    pub max_ahead: Option<u64>,
 }

@@ -1,23 +1,23 @@
 ghost use Rattle.std.specs.Prelude.{◌≡◌, ◌↔◌, IfErr, IfOk, None, Some, codes, if◌then◌else◌, map};
 ghost use Rattle.std.specs.Prelude.{option_and_then, option_map};
 ghost use Rattle.std.specs.String.{string_bytes};
-ghost use Rattle.clap.specs.Words.{first_value, found_of, kind_of, rows_of, subcommand_rows_of};
+ghost use Rattle.clap.specs.Words.{kind_of, subcommand_rows_of};
 ghost use Rattle.kd_commands.specs.Line.{IsHelpLine, IsLine, IsVersionLine};
 ghost use Rattle.kd_commands.specs.Order.{Asked, Asks, AsksFor, GivesUnlessFull, HasFault, HelpsUnlessFull};
 ghost use Rattle.kd_commands.specs.Order.{IsVersionUnlessFull};
-ghost use Rattle.kd_commands.specs.Order.{asked_by, asked_of, compiles, evaluates, evaluation_of, flag_is_given};
-ghost use Rattle.kd_commands.specs.Order.{checking_of, filtering_of, given_by, imports, listening_of, listing_at, listing_of};
-ghost use Rattle.kd_commands.specs.Order.{explaining_of, explaining_with, pools_listing, replaying_of};
-ghost use Rattle.kd_commands.specs.Order.{serving_of, showing_of, tests, types, verifies};
+ghost use Rattle.kd_commands.specs.Order.{answering_of, asked_by, asked_of, checking_of, compiles, evaluates};
+ghost use Rattle.kd_commands.specs.Order.{evaluation_of, filtering_of, flag_is_given, given_by, imports, listening_of};
+ghost use Rattle.kd_commands.specs.Order.{paths_in, paths_of, pools_sight, replaying_of, serving_of, showing_of};
+ghost use Rattle.kd_commands.specs.Order.{sight_of, tests, types, verifies, view_with, viewing_of};
 ghost use Rattle.kd_commands.specs.Values.{address_of, event_line_of, hardware_of, number_of, port_of, read_if_given, read_or};
-ghost use Rattle.kd_commands.specs.Steps.{AnswersKind, GivesIfThere};
+ghost use Rattle.kd_commands.specs.Steps.{AnswersKind, GivesIfThere, matched_texts};
 
 use crate::address::address_in;
 use crate::fault::LineFault;
 use crate::hardware::hardware_in;
 use crate::line::kdhcp;
 use crate::number::{event_line_in, number_in, port_in};
-use crate::orders::{Files, Listening, Listing, Order};
+use crate::orders::{Files, Listening, Order, Place, Service, View, Work};
 use clap::ArgMatches;
 use clap::error::ErrorKind;
 use std::alloc::{AllocError, Global};
@@ -66,7 +66,7 @@ fn order_from(alloc: Global, matches: &ArgMatches<'_>) -> Result<Order, LineFaul
 
 // Returns what the matches of the subcommand with this name ask for.
 fn order_named(alloc: Global, name: &str, inner: &ArgMatches<'_>) -> Result<Order, LineFault>
-    ensures { GivesIfThere (asked_by name.now (rows_of (found_of inner.now))) result }
+    ensures { GivesIfThere (asked_by name.now (matched_texts inner.now)) result }
 {
     match name {
         "show" => show_order(alloc, inner),
@@ -75,7 +75,7 @@ fn order_named(alloc: Global, name: &str, inner: &ArgMatches<'_>) -> Result<Orde
         "verify" => verify_order(alloc, inner),
         "eval" => eval_order(alloc, inner),
         "replay" => replay_order(alloc, inner),
-        "leases" => listing_order(alloc, Listing::Leases, inner),
+        "leases" => listing_order(alloc, View::Leases, inner),
         "pools" => pools_order(alloc, inner),
         "why" => why_order(alloc, inner),
         "import" => import_order(alloc, inner),
@@ -88,8 +88,7 @@ fn order_named(alloc: Global, name: &str, inner: &ArgMatches<'_>) -> Result<Orde
 
 // Returns what the matches of `show` ask for.
 fn show_order(alloc: Global, matches: &ArgMatches<'_>) -> Result<Order, LineFault>
-    ensures { GivesIfThere (showing_of (first_value (found_of matches.now) (codes "names"))
-        (first_value (found_of matches.now) (codes "HEX"))) result }
+    ensures { GivesIfThere (showing_of (matched_texts matches.now)) result }
 {
     let names = is_flagged(matches.get_str("names"));
     match text_of(alloc, matches, "HEX")? {
@@ -101,7 +100,7 @@ fn show_order(alloc: Global, matches: &ArgMatches<'_>) -> Result<Order, LineFaul
 // Returns what the matches of `expr` ask for.
 fn expr_order(alloc: Global, matches: &ArgMatches<'_>) -> Result<Order, LineFault>
     ensures { GivesIfThere (option_map (λ text. types text)
-        (first_value (found_of matches.now) (codes "TEXT"))) result }
+        (matched_texts matches.now (codes "TEXT"))) result }
 {
     match text_of(alloc, matches, "TEXT")? {
         Some(text) => Ok(Order::Expr { text }),
@@ -112,7 +111,7 @@ fn expr_order(alloc: Global, matches: &ArgMatches<'_>) -> Result<Order, LineFaul
 // Returns what the matches of `compile` ask for.
 fn compile_order(alloc: Global, matches: &ArgMatches<'_>) -> Result<Order, LineFault>
     ensures { GivesIfThere (option_map (λ text. compiles text)
-        (first_value (found_of matches.now) (codes "TEXT"))) result }
+        (matched_texts matches.now (codes "TEXT"))) result }
 {
     let text = text_of(alloc, matches, "TEXT")?;
     match text {
@@ -124,7 +123,7 @@ fn compile_order(alloc: Global, matches: &ArgMatches<'_>) -> Result<Order, LineF
 // Returns what the matches of `verify` ask for.
 fn verify_order(alloc: Global, matches: &ArgMatches<'_>) -> Result<Order, LineFault>
     ensures { GivesIfThere (option_map (λ hex. verifies hex)
-        (first_value (found_of matches.now) (codes "HEX"))) result }
+        (matched_texts matches.now (codes "HEX"))) result }
 {
     match text_of(alloc, matches, "HEX")? {
         Some(hex) => Ok(Order::Verify { hex }),
@@ -134,9 +133,7 @@ fn verify_order(alloc: Global, matches: &ArgMatches<'_>) -> Result<Order, LineFa
 
 // Returns what the matches of `eval` ask for.
 fn eval_order(alloc: Global, matches: &ArgMatches<'_>) -> Result<Order, LineFault>
-    ensures { GivesIfThere (evaluation_of (first_value (found_of matches.now) (codes "text"))
-        (first_value (found_of matches.now) (codes "PROGRAM"))
-        (first_value (found_of matches.now) (codes "DATAGRAM"))) result }
+    ensures { GivesIfThere (evaluation_of (matched_texts matches.now)) result }
 {
     let is_text = is_flagged(matches.get_str("text"));
     match text_of(alloc, matches, "PROGRAM")? {
@@ -176,12 +173,7 @@ fn is_flagged(value: Option<&str>) -> bool
 
 // Returns the paths in the matches.
 fn files_of(alloc: Global, matches: &ArgMatches<'_>) -> Result<Files, AllocError>
-    ensures config { IfOk result (λ files. option_map string_bytes files.config
-        ≡ first_value (found_of matches.now) (codes "config")) }
-    ensures token_dir { IfOk result (λ files. option_map string_bytes files.token_dir
-        ≡ first_value (found_of matches.now) (codes "token-dir")) }
-    ensures store { IfOk result (λ files. option_map string_bytes files.store
-        ≡ first_value (found_of matches.now) (codes "store")) }
+    ensures { IfOk result (λ files. paths_in files ≡ paths_of (matched_texts matches.now)) }
 {
     let config = text_of(alloc, matches, "config")?;
     let token_dir = text_of(alloc, matches, "token-dir")?;
@@ -195,123 +187,70 @@ fn files_of(alloc: Global, matches: &ArgMatches<'_>) -> Result<Files, AllocError
 
 // Returns what the matches of `replay` ask for.
 fn replay_order(alloc: Global, matches: &ArgMatches<'_>) -> Result<Order, LineFault>
-    ensures { GivesIfThere (replaying_of (first_value (found_of matches.now) (codes "config"))
-        (first_value (found_of matches.now) (codes "token-dir"))
-        (first_value (found_of matches.now) (codes "store"))
-        (first_value (found_of matches.now) (codes "why"))) result }
+    ensures { GivesIfThere (replaying_of (matched_texts matches.now)) result }
 {
     let Some(why) = event_line_if_given(matches.get_str("why")) else {
         return Err(LineFault::CommandLine);
     };
     let files = files_of(alloc, matches)?;
-    Ok(Order::Replay { files, why })
+    let work = match why {
+        Some(line) => Work::Explain(line),
+        None => Work::Replay,
+    };
+    Ok(Order::Over { files, work })
 }
 
-// Returns what the matches of `leases` or `pools` ask for, by what is printed.
-fn listing_order(
-    alloc: Global,
-    listing: Listing,
-    matches: &ArgMatches<'_>,
-) -> Result<Order, LineFault>
-    ensures { GivesIfThere (listing_of listing (first_value (found_of matches.now) (codes "config"))
-        (first_value (found_of matches.now) (codes "token-dir"))
-        (first_value (found_of matches.now) (codes "store"))
-        (flag_is_given (first_value (found_of matches.now) (codes "live")))
-        (first_value (found_of matches.now) (codes "at"))) result }
+// Returns what the matches of `leases`, `pools` or `why` ask for, by what is printed.
+fn listing_order(alloc: Global, view: View, matches: &ArgMatches<'_>) -> Result<Order, LineFault>
+    ensures { GivesIfThere (viewing_of (sight_of view) (matched_texts matches.now)) result }
 {
     let Some(at) = number_given(matches.get_str("at")) else {
         return Err(LineFault::CommandLine);
     };
-    let is_live = is_flagged(matches.get_str("live"));
+    let live = is_flagged(matches.get_str("live"));
     let files = files_of(alloc, matches)?;
-    order_at(listing, is_live, files, at)
-}
-
-// Returns the order that lists the store of these files at a time, or looks into it.
-fn order_at(listing: Listing, is_live: bool, files: Files, at: u64) -> Result<Order, LineFault>
-    ensures { GivesIfThere (listing_at listing (option_map string_bytes files.config)
-        (option_map string_bytes files.token_dir) (option_map string_bytes files.store)
-        is_live at) result }
-{
-    if !is_live {
-        return Ok(Order::List { listing, files, at });
-    }
-    let Files {
-        config,
-        token_dir,
-        store,
-    } = files;
-    match store {
-        Some(store) => Ok(Order::Look {
-            listing,
-            config,
-            token_dir,
-            store,
-            at,
-        }),
-        None => Err(LineFault::CommandLine),
-    }
+    show_at(files, view, at, live)
 }
 
 // Returns what the matches of `pools` ask for.
 fn pools_order(alloc: Global, matches: &ArgMatches<'_>) -> Result<Order, LineFault>
-    ensures { GivesIfThere (listing_of
-        (pools_listing (first_value (found_of matches.now) (codes "prometheus")))
-        (first_value (found_of matches.now) (codes "config"))
-        (first_value (found_of matches.now) (codes "token-dir"))
-        (first_value (found_of matches.now) (codes "store"))
-        (flag_is_given (first_value (found_of matches.now) (codes "live")))
-        (first_value (found_of matches.now) (codes "at"))) result }
+    ensures { GivesIfThere (viewing_of
+        (pools_sight (matched_texts matches.now (codes "prometheus")))
+        (matched_texts matches.now)) result }
 {
-    let listing = if is_flagged(matches.get_str("prometheus")) {
-        Listing::Metrics
+    let view = if is_flagged(matches.get_str("prometheus")) {
+        View::Metrics
     } else {
-        Listing::Pools
+        View::Pools
     };
-    listing_order(alloc, listing, matches)
+    listing_order(alloc, view, matches)
 }
 
 // Returns what the matches of `why` ask for.
 fn why_order(alloc: Global, matches: &ArgMatches<'_>) -> Result<Order, LineFault>
-    ensures { GivesIfThere (explaining_of (λ name. first_value (found_of matches.now) name)) result }
+    ensures { GivesIfThere (answering_of (matched_texts matches.now)) result }
 {
-    let Some(moment) = number_given(matches.get_str("at")) else {
-        return Err(LineFault::CommandLine);
-    };
-    let Some(hex) = text_of(alloc, matches, "HEX")? else {
-        return Err(LineFault::CommandLine);
-    };
-    let live = is_flagged(matches.get_str("live"));
-    let files = files_of(alloc, matches)?;
-    explanation(files, live, moment, hex)
+    match text_of(alloc, matches, "HEX")? {
+        Some(hex) => listing_order(alloc, View::Why(hex), matches),
+        None => Err(LineFault::CommandLine),
+    }
 }
 
-// Returns the order that explains a datagram at a time, over the store of these files.
-fn explanation(files: Files, live: bool, at: u64, hex: String) -> Result<Order, LineFault>
-    ensures { GivesIfThere (explaining_with (record {
-      config = option_map string_bytes files.config;
-      token_dir = option_map string_bytes files.token_dir;
-      store = option_map string_bytes files.store;
-      live = live;
-      at = at;
-      hex = string_bytes hex;
-    })) result }
+// Returns the order that prints a view of the store of these files at a time.
+fn show_at(files: Files, view: View, at: u64, live: bool) -> Result<Order, LineFault>
+    ensures { GivesIfThere (view_with (paths_in files) (sight_of view) at live) result }
 {
     if live && files.store.is_none() {
         return Err(LineFault::CommandLine);
     }
-    Ok(Order::Why {
-        files,
-        live,
-        at,
-        hex,
-    })
+    let work = Work::Show { view, at, live };
+    Ok(Order::Over { files, work })
 }
 
 // Returns what the matches of `import` ask for.
 fn import_order(alloc: Global, matches: &ArgMatches<'_>) -> Result<Order, LineFault>
     ensures { GivesIfThere (option_map (λ store. imports store)
-        (first_value (found_of matches.now) (codes "store"))) result }
+        (matched_texts matches.now (codes "store"))) result }
 {
     match text_of(alloc, matches, "store")? {
         Some(store) => Ok(Order::Import { store }),
@@ -321,8 +260,7 @@ fn import_order(alloc: Global, matches: &ArgMatches<'_>) -> Result<Order, LineFa
 
 // Returns what the matches of `events` ask for.
 fn events_order(alloc: Global, matches: &ArgMatches<'_>) -> Result<Order, LineFault>
-    ensures { GivesIfThere (filtering_of (first_value (found_of matches.now) (codes "mac"))
-        (first_value (found_of matches.now) (codes "address"))) result }
+    ensures { GivesIfThere (filtering_of (matched_texts matches.now)) result }
 {
     let Some(mac) = hardware_if_given(alloc, matches.get_str("mac"))? else {
         return Err(LineFault::CommandLine);
@@ -335,7 +273,7 @@ fn events_order(alloc: Global, matches: &ArgMatches<'_>) -> Result<Order, LineFa
 
 // Returns what the matches of `check` ask for.
 fn check_order(alloc: Global, matches: &ArgMatches<'_>) -> Result<Order, LineFault>
-    ensures { GivesIfThere (checking_of (λ name. first_value (found_of matches.now) name)) result }
+    ensures { GivesIfThere (checking_of (matched_texts matches.now)) result }
 {
     let Some(bind) = address_or(matches.get_str("bind"), LOOPBACK) else {
         return Err(LineFault::CommandLine);
@@ -347,17 +285,17 @@ fn check_order(alloc: Global, matches: &ArgMatches<'_>) -> Result<Order, LineFau
         return Err(LineFault::CommandLine);
     };
     let files = files_of(alloc, matches)?;
-    Ok(Order::Check {
-        files,
+    let place = Place {
         bind,
         port,
         max_ahead,
-    })
+    };
+    Ok(Order::Check { files, place })
 }
 
 // Returns what the matches of `serve` ask for.
 fn serve_order(alloc: Global, matches: &ArgMatches<'_>) -> Result<Order, LineFault>
-    ensures { GivesIfThere (serving_of (λ name. first_value (found_of matches.now) name)) result }
+    ensures { GivesIfThere (serving_of (matched_texts matches.now)) result }
 {
     let Some(listening) = listening_in(matches) else {
         return Err(LineFault::CommandLine);
@@ -370,22 +308,18 @@ fn serve_order(alloc: Global, matches: &ArgMatches<'_>) -> Result<Order, LineFau
     };
     let files = files_of(alloc, matches)?;
     let journal = text_of(alloc, matches, "record")?;
-    Ok(Order::Serve {
-        files,
+    let work = Work::Serve(Service {
         listening,
         count,
         journal,
         max_ahead,
-    })
+    });
+    Ok(Order::Over { files, work })
 }
 
 // Returns where the matches of `serve` place the socket, and where they send replies.
 fn listening_in(matches: &ArgMatches<'_>) -> Option<Listening>
-    ensures { result ≡ listening_of (first_value (found_of matches.now) (codes "bind"))
-        (first_value (found_of matches.now) (codes "port"))
-        (first_value (found_of matches.now) (codes "client-port"))
-        (first_value (found_of matches.now) (codes "broadcast-as"))
-        (flag_is_given (first_value (found_of matches.now) (codes "mirror"))) }
+    ensures { result ≡ listening_of (matched_texts matches.now) }
 {
     let bind = address_or(matches.get_str("bind"), LOOPBACK)?;
     let port = port_or(matches.get_str("port"), SERVER_PORT)?;
@@ -481,7 +415,7 @@ fn event_line_if_given(value: Option<&str>) -> Option<Option<u64>>
 // Returns the text of an argument, if the matches have it.
 fn text_of(alloc: Global, matches: &ArgMatches<'_>, id: &str) -> Result<Option<String>, AllocError>
     ensures { IfOk result
-        (λ text. option_map string_bytes text ≡ first_value (found_of matches.now) id.now) }
+        (λ text. option_map string_bytes text ≡ matched_texts matches.now id.now) }
 {
     match matches.get_str(id) {
         Some(text) => Ok(Some(String::from_str(alloc, text)?)),
