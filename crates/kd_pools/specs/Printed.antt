@@ -4,7 +4,7 @@ use Rattle.std.specs.Prelude.{ℕ, List, ◌++◌, codes, decimal}
 use Rattle.std.specs.List.{flat_map}
 use Rattle.kd_config.specs.declared.prefix.Prefix.{Prefix}
 use Rattle.kd_config.specs.declared.range.Range.{Range}
-use Rattle.kd_replay.specs.Text.{address_text, prefix_text}
+use Rattle.kd_text.specs.Text.{address_text, prefix_text}
 use Rattle.kd_pools.specs.Uses.{UseOfSubnet}
 use Rattle.kd_pools.specs.declared.counts.Counts.{Counts}
 use Rattle.kd_pools.specs.declared.metrics.Metric.{Metric}

@@ -89,7 +89,7 @@ fn has_ended(row: Option<&Row>, now: u64) -> bool
     ensures { result ≡ has_such (λ r. not (live_row now r)) (option_copied row.entry) }
 {
     match row {
-        Some(row) => row.ends <= now,
+        Some(row) => !row.is_live(now),
         None => false,
     }
 }
@@ -99,7 +99,7 @@ fn is_bound(row: Option<&Row>, now: u64) -> bool
     ensures { result ≡ has_such (live_in bound_state now) (option_copied row.entry) }
 {
     match row {
-        Some(row) => now < row.ends && row.state == State::Bound,
+        Some(row) => row.is_live(now) && row.state == State::Bound,
         None => false,
     }
 }
@@ -109,7 +109,7 @@ fn is_offered(row: Option<&Row>, now: u64) -> bool
     ensures { result ≡ has_such (live_in offered_state now) (option_copied row.entry) }
 {
     match row {
-        Some(row) => now < row.ends && row.state == State::Offered,
+        Some(row) => row.is_live(now) && row.state == State::Offered,
         None => false,
     }
 }
@@ -119,7 +119,7 @@ fn is_declined(row: Option<&Row>, now: u64) -> bool
     ensures { result ≡ has_such (live_in declined_state now) (option_copied row.entry) }
 {
     match row {
-        Some(row) => now < row.ends && row.state == State::Declined,
+        Some(row) => row.is_live(now) && row.state == State::Declined,
         None => false,
     }
 }

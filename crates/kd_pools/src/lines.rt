@@ -4,7 +4,7 @@ ghost use Rattle.kd_pools.specs.Printed.{lines_text, pool_line, subnet_line, sub
 use crate::text::{put_counts, put_range};
 use crate::uses::{PoolUse, SubnetUse};
 use kd_config::Prefix;
-use kd_replay::put_prefix;
+use kd_text::put_prefix;
 use std::alloc::{AllocError, Global};
 
 /// Prints the lines of subnets, each with its line feed. For each subnet there is one line for each

@@ -4,7 +4,7 @@ ghost use Rattle.kd_pools.specs.Printed.{head_text, labels_text, metric_help, me
 use crate::text::put_range;
 use crate::uses::{PoolUse, SubnetUse};
 use kd_config::{Prefix, Range};
-use kd_replay::put_prefix;
+use kd_text::put_prefix;
 use std::alloc::{AllocError, Global};
 use std::fmt::Write;
 

@@ -43,17 +43,7 @@ pub(crate) fn place_of(list: &[u32], address: u32) -> usize
     requires { IsNonDecreasing list.now }
     ensures { IsPlaceFor list.now result address }
 {
-    let mut low = 0;
-    let mut high = list.len();
-    'halves: while low < high {
-        let middle = low + (high - low) / 2;
-        if list[middle] < address {
-            low = middle + 1;
-        } else {
-            high = middle;
-        }
-    }
-    low
+    list.partition_point(|other| *other < address)
 }
 
 // Returns the same, given a place before which all addresses are below this one.

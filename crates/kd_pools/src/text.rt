@@ -3,7 +3,7 @@ ghost use Rattle.kd_pools.specs.Printed.{counts_text, range_text};
 
 use crate::counts::Counts;
 use kd_config::Range;
-use kd_replay::put_address;
+use kd_text::put_address;
 use std::alloc::AllocError;
 use std::fmt::Write;
 

@@ -1,15 +1,16 @@
 -- The lowest address that has no row and is not withheld.
-use Rattle.std.proofs.Common.{◌≡◌, ℕ, ◌+◌, ◌-◌, ◌<◌, ◌≤◌, Bool, true, false, ◌||◌, List, length, get_or, refl, sym, ap, ◌∙◌, subst, Option, Some, None, IsSome, is_some, arith, ⊎_elim}
+use Rattle.std.proofs.Common.{◌≡◌, ℕ, ◌+◌, ◌-◌, ◌<◌, ◌≤◌, Bool, true, false, ◌||◌, List, [], length, get_or, refl, sym, ap, ◌∙◌, subst, Option, Some, None, IsSome, is_some, arith, ⊎_elim}
 use Rattle.std.proofs.lemmas.Bool.{cases_lt}
 use Rattle.std.proofs.lemmas.List.{get_or_default}
 use Rattle.kd_rows.specs.declared.row.Row.{Row}
-use Rattle.kd_rows.specs.Index.{IsPlace}
+use Rattle.kd_rows.specs.Index.{IsPlace, row_in}
 use Rattle.kd_rows.specs.Open.{AreApart, AreTaken, IsTakenEnd, address_rows}
 use Rattle.kd_rows.specs.Table.{IsFirstGap, Rise, row_at}
 use Rattle.kd_rows.specs.Withheld.{IsFirstFree, is_taken, is_withheld}
 use Rattle.kd_rows.proofs.Fulls.{has_at}
 use Rattle.kd_rows.proofs.Listed.{row_listed}
-use Rattle.kd_rows.proofs.Places.{apart, is_at, none_at, place_at, read_at}
+use Rattle.kd_rows.proofs.Places.{apart, is_at, none_at, place_at, read_at, same_at}
+use Rattle.kd_rows.proofs.Slots.{slot_at}
 use Rattle.kd_rows.proofs.Ranks.{Apart, all_taken, each_taken, rank_grows, rank_place, taken_below}
 
 -- the address of a row is taken, and so is a withheld one
@@ -22,75 +23,84 @@ taken_withheld rows bare a out = by (is_some (row_at rows a)) out where
   by true h = refl
   by false h = h
 
--- the indexes of an address among rows and among withheld addresses, and those of the first
-pub record Stands (rows : List Row) (bare : List ℕ) (first start skip middle count : ℕ) (row : Row) : Type 0 where
+-- the indexes of an address among rows and among withheld addresses
+pub record Stands (rows : List Row) (bare : List ℕ) (first start skip : ℕ) : Type 0 where
   pub known : Apart rows bare
   pub start_at : IsPlace rows first start
   pub skip_at : IsPlace (address_rows bare) first skip
-  pub after : start ≤ middle
-  pub within : middle < length rows
-  pub here : row ≡ get_or rows middle row
-  pub count_at : IsPlace (address_rows bare) row.address count
 
-pub stand : {rows : List Row} {bare : List ℕ} {first start skip middle count : ℕ} {row : Row} → Rise rows → Rise (address_rows bare) → AreApart rows bare → IsPlace rows first start → IsPlace (address_rows bare) first skip → start ≤ middle → middle < length rows → row ≡ get_or rows middle row → IsPlace (address_rows bare) row.address count
-    → Stands rows bare first start skip middle count row
-stand rise listed apart start_at skip_at after within here count_at =
-    record { known = record { rise = rise; listed = listed; apart = apart }; start_at = start_at; skip_at = skip_at; after = after; within = within; here = here; count_at = count_at }
+pub stand : (rows : List Row) (bare : List ℕ) (first start skip : ℕ) → Rise rows → Rise (address_rows bare) → AreApart rows bare → IsPlace rows first start → IsPlace (address_rows bare) first skip → Stands rows bare first start skip
+stand rows bare first start skip rise listed apart start_at skip_at =
+    record { known = record { rise = rise; listed = listed; apart = apart }; start_at = start_at; skip_at = skip_at }
 
--- a row from the index of first on is at first or above it, at least as far above as its index is
--- later
-pub far : (rows : List Row) (bare : List ℕ) (first start skip middle count : ℕ) (row : Row) → Stands rows bare first start skip middle count row → (first ≤ row.address) × ((middle - start ≤ row.address - first) × (skip ≤ count))
-far rows bare first start skip middle count row s = (low, (steps, more)) where
-  low : first ≤ row.address
-  low = omega (arith, s.start_at.above middle row s.after s.within, read_at rows middle row row s.within s.here)
+-- a row from the index of first on is at first or above it
+pub no_lower : (rows : List Row) (bare : List ℕ) (first start skip : ℕ) → Stands rows bare first start skip → (i : ℕ) → start ≤ i → i < length rows → (a : ℕ) → a ≡ (row_in rows i).address → first ≤ a
+no_lower rows bare first start skip s i after within a is = omega (arith, s.start_at.above i (row_in [] 0) after within, is)
 
-  steps : middle - start ≤ row.address - first
-  steps = omega (arith, low, apart rows s.known.rise start middle row s.after s.within, s.start_at.above start row (omega arith) (omega (arith, s.after, s.within)), read_at rows middle row row s.within s.here)
+-- it is at least as far above as its index is later
+pub no_nearer : (rows : List Row) (bare : List ℕ) (first start skip : ℕ) → Stands rows bare first start skip → (i : ℕ) → start ≤ i → i < length rows → (a : ℕ) → a ≡ (row_in rows i).address → i - start ≤ a - first
+no_nearer rows bare first start skip s i after within a is =
+    let none : Row = row_in [] 0 in
+    omega (arith, no_lower rows bare first start skip s i after within a is, apart rows s.known.rise start i none after within, s.start_at.above start none (omega arith) (omega (arith, after, within)), is)
 
-  more : skip ≤ count
-  more = omega (arith, (rank_grows (address_rows bare) s.known.listed first (row.address - first) row.address (omega (arith, low))).0, rank_place (address_rows bare) first skip s.skip_at, rank_place (address_rows bare) row.address count s.count_at)
+-- no fewer withheld addresses are below it
+pub no_fewer : (rows : List Row) (bare : List ℕ) (first start skip : ℕ) → Stands rows bare first start skip → (i : ℕ) → start ≤ i → i < length rows → (a count : ℕ) → a ≡ (row_in rows i).address → IsPlace (address_rows bare) a count → skip ≤ count
+no_fewer rows bare first start skip s i after within a count is at =
+    omega (arith, (rank_grows (address_rows bare) s.known.listed first (a - first) a (omega (arith, no_lower rows bare first start skip s i after within a is))).0, rank_place (address_rows bare) first skip s.skip_at, rank_place (address_rows bare) a count at)
 
-counts : (rows : List Row) (bare : List ℕ) (first start skip middle count : ℕ) (row : Row) → Stands rows bare first start skip middle count row → (taken_below rows bare first ≡ start + skip) × (taken_below rows bare row.address ≡ middle + count)
-counts rows bare first start skip middle count row s = (
+-- what a step of the search knows
+far : (rows : List Row) (bare : List ℕ) (first start skip : ℕ) → Stands rows bare first start skip → (i : ℕ) → start ≤ i → i < length rows → (a count : ℕ) → a ≡ (row_in rows i).address → IsPlace (address_rows bare) a count
+    → (first ≤ a) × ((i - start ≤ a - first) × (skip ≤ count))
+far rows bare first start skip s i after within a count is at =
+    (no_lower rows bare first start skip s i after within a is, (no_nearer rows bare first start skip s i after within a is, no_fewer rows bare first start skip s i after within a count is at))
+
+counts : (rows : List Row) (bare : List ℕ) (first start skip : ℕ) → Stands rows bare first start skip → (i : ℕ) → i < length rows → (a count : ℕ) → a ≡ (row_in rows i).address → IsPlace (address_rows bare) a count
+    → (taken_below rows bare first ≡ start + skip) × (taken_below rows bare a ≡ i + count)
+counts rows bare first start skip s i within a count is at = (
   omega (arith, rank_place rows first start s.start_at, rank_place (address_rows bare) first skip s.skip_at),
-  omega (arith, rank_place rows row.address middle at, rank_place (address_rows bare) row.address count s.count_at),
+  omega (arith, rank_place rows a i here, rank_place (address_rows bare) a count at),
 ) where
-  at : IsPlace rows row.address middle
-  at = place_at rows row.address middle s.known.rise s.within (λ d. read_at rows middle row d s.within s.here)
+  here : IsPlace rows a i
+  here = place_at rows a i s.known.rise within (λ d. same_at rows i d (row_in [] 0) within ∙ sym is)
 
--- if the row in the middle shows that every address before it is taken, that holds for the rows
--- before
-pub taken_more : (rows : List Row) (bare : List ℕ) (first start skip middle count : ℕ) (row : Row) → Stands rows bare first start skip middle count row → row.address - first - (middle - start) ≡ count - skip
-    → (i : ℕ) (d : Row) → start ≤ i → i < middle + 1 → AreTaken rows bare first (get_or rows i d).address
-taken_more rows bare first start skip middle count row s full i d after before a from to = ⊎_elim
-    (λ l. each_taken rows bare first (row.address - first) row.address s.known (omega (arith, f.0)) (omega (arith, f.0, f.1, f.1.1, c.0, c.1, full)) a from l)
-    (λ l. let e : a ≡ row.address = omega (arith, l, to, high) in taken_row rows bare a (subst (λ (n : ℕ). IsSome (row_at rows n)) (sym e) (has_at rows middle row s.known.rise s.within s.here)))
-    (cases_lt a row.address) where
-      f : (first ≤ row.address) × ((middle - start ≤ row.address - first) × (skip ≤ count))
-      f = far rows bare first start skip middle count row s
+-- a step of the search: if there are as many rows and withheld addresses from first to a row as
+-- addresses, every address up to the row's is taken
+pub step_taken : (rows : List Row) (bare : List ℕ) (first start skip : ℕ) → Stands rows bare first start skip → (i : ℕ) → start ≤ i → i < length rows → (a count : ℕ) → a ≡ (row_in rows i).address → IsPlace (address_rows bare) a count → a - first - (i - start) ≡ count - skip
+    → AreTaken rows bare first (row_in rows i).address
+step_taken rows bare first start skip s i after within a count is at full b from to = ⊎_elim
+    (λ l. each_taken rows bare first (a - first) a s.known (omega (arith, f.0)) (omega (arith, f.0, f.1, f.1.1, c.0, c.1, full)) b from l)
+    (λ l. let e : b ≡ (row_in rows i).address = omega (arith, l, to, is) in taken_row rows bare b (subst (λ (n : ℕ). IsSome (row_at rows n)) (sym e) (has_at rows i (row_in rows i) s.known.rise within (slot_at rows i (row_in rows i) within))))
+    (cases_lt b a) where
+      f : (first ≤ a) × ((i - start ≤ a - first) × (skip ≤ count))
+      f = far rows bare first start skip s i after within a count is at
 
-      c : (taken_below rows bare first ≡ start + skip) × (taken_below rows bare row.address ≡ middle + count)
-      c = counts rows bare first start skip middle count row s
+      c : (taken_below rows bare first ≡ start + skip) × (taken_below rows bare a ≡ i + count)
+      c = counts rows bare first start skip s i within a count is at
 
-      high : (get_or rows i d).address ≤ row.address
-      high = omega (arith, apart rows s.known.rise i middle d (omega arith) s.within, read_at rows middle row d s.within s.here)
-
--- and if it does not, it holds for none of the rows from it on
-pub taken_less : (rows : List Row) (bare : List ℕ) (first start skip middle count : ℕ) (row : Row) → Stands rows bare first start skip middle count row → (row.address - first - (middle - start) ≡ count - skip → ⊥)
-    → (i : ℕ) (d : Row) → middle ≤ i → i < length rows → AreTaken rows bare first (get_or rows i d).address → ⊥
-taken_less rows bare first start skip middle count row s other i d after within taken =
+-- and if there are not, some address is not
+pub step_open : (rows : List Row) (bare : List ℕ) (first start skip : ℕ) → Stands rows bare first start skip → (i : ℕ) → start ≤ i → i < length rows → (a count : ℕ) → a ≡ (row_in rows i).address → IsPlace (address_rows bare) a count → (a - first - (i - start) ≡ count - skip → ⊥)
+    → AreTaken rows bare first (row_in rows i).address → ⊥
+step_open rows bare first start skip s i after within a count is at other taken =
     other (omega (arith, f.0, f.1, f.1.1, c.0, c.1, full)) where
-      f : (first ≤ row.address) × ((middle - start ≤ row.address - first) × (skip ≤ count))
-      f = far rows bare first start skip middle count row s
+      f : (first ≤ a) × ((i - start ≤ a - first) × (skip ≤ count))
+      f = far rows bare first start skip s i after within a count is at
 
-      c : (taken_below rows bare first ≡ start + skip) × (taken_below rows bare row.address ≡ middle + count)
-      c = counts rows bare first start skip middle count row s
+      c : (taken_below rows bare first ≡ start + skip) × (taken_below rows bare a ≡ i + count)
+      c = counts rows bare first start skip s i within a count is at
 
-      low : row.address ≤ (get_or rows i d).address
-      low = omega (arith, apart rows s.known.rise middle i d after within, read_at rows middle row d s.within s.here)
+      full : taken_below rows bare a ≡ taken_below rows bare first + (a - first)
+      full = all_taken rows bare first (a - first) a s.known (omega (arith, f.0)) (λ b from before. taken b from (omega (arith, before, is)))
 
-      full : taken_below rows bare row.address ≡ taken_below rows bare first + (row.address - first)
-      full = all_taken rows bare first (row.address - first) row.address s.known (omega (arith, f.0)) (λ a from before. taken a from (omega (arith, low)))
+-- the end of the search: what is so of the row before it is so of those before, and what is not so
+-- of the row at it is so of none after
+pub taken_end_from : (rows : List Row) (bare : List ℕ) (first start end : ℕ) → Rise rows → start ≤ end → end ≤ length rows → (start < end → AreTaken rows bare first (row_in rows (end - 1)).address) → (end < length rows → AreTaken rows bare first (row_in rows end).address → ⊥)
+    → IsTakenEnd rows bare first start end
+taken_end_from rows bare first start end rise order within here ends = record {
+  from_start = order;
+  in_range = within;
+  taken = λ i d after before a from to. here (omega arith) a from (omega (arith, to, apart rows rise i (end - 1) d (omega arith) (omega arith), same_at rows (end - 1) d (row_in [] 0) (omega arith)));
+  ends = λ i d after inside taken. ends (omega arith) (λ a from to. taken a from (omega (arith, to, apart rows rise end i d after inside, same_at rows end d (row_in [] 0) (omega arith))));
+}
 
 -- the lowest address that is not withheld after those that are taken is free
 pub outside_free : (rows : List Row) (bare : List ℕ) (first from last start end : ℕ) (found : Option ℕ) → Rise rows → IsTakenEnd rows bare first start end → first ≤ from → ((a : ℕ) → first ≤ a → a < from → is_taken rows bare a ≡ true)

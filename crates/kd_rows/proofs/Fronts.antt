@@ -168,13 +168,6 @@ read_address slots addresses by_address place number address are sorted inside i
       here : number < length addresses
       here = omega (arith, low, ap length are, length-map slots (λ (row : Row). row.address))
 
--- how many heads there are
-pub heads_length : (slots : List Row) (heads : List ℕ) → AreHeads slots heads → length heads ≡ length slots
-heads_length slots heads are = ap length are.value ∙ length-map slots (λ row. front_number 8 row.client)
-
-pub addresses_length : (slots : List Row) → length (row_addresses slots) ≡ length slots
-addresses_length slots = length-map slots (λ (row : Row). row.address)
-
 -- one more row
 pub heads_more : (slots : List Row) (heads : List ℕ) (row : Row) (head : ℕ) → AreHeads slots heads → IsHead row.client head → AreHeads (slots ++ row ∷ []) (heads ++ head ∷ [])
 heads_more slots heads row head are is = record {

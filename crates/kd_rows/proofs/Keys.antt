@@ -64,6 +64,14 @@ high_less key index k middle rising here i after within h = by (cases_eq i middl
   by (inl e) = here (subst (λ (j : ℕ). IsKeyBelow (key (get_or index j 0)) k) e h)
   by (inr n) = here (below_trans (key (get_or index middle 0)) (key (get_or index i 0)) k (rising middle i (omega arith) within) h)
 
+-- the end of a search for an index: the key before it is below another, and the key at it is not
+pub key_place_from : (key : ℕ → List ℕ × ℕ) (index : List ℕ) (k : List ℕ × ℕ) (place : ℕ) → Rises key index → place ≤ length index → (0 < place → is_lt (key_order (key (get_or index (place - 1) 0)) k) ≡ true) → (place < length index → is_lt (key_order (key (get_or index place 0)) k) ≡ false) → IsKeyPlace key index k place
+key_place_from key index k place rising within low high = record {
+  in_range = within;
+  below = λ i before. low_more key index k (place - 1) rising (omega arith) (below_if _ k (low (omega arith))) i (omega arith);
+  above = λ i after inside. high_less key index k place rising (not_below_if _ k (high (omega arith))) i after inside;
+}
+
 -- the key that a step of the search compares
 pub read_key : (of : Row → List ℕ) (rows : List Row) (index : List ℕ) (k : List ℕ × ℕ) (middle at : ℕ) (order : List ℕ) (test : Bool) → at ≡ get_or index middle 0 → order ≡ order_in of (row_at rows at) → test ≡ is_lt (key_order (order, at) k) → test ≡ is_lt (key_order (key_by of rows (get_or index middle 0)) k)
 read_key of rows index k middle at order test is from result = result ∙ ap (λ (x : List ℕ). is_lt (key_order (x, at) k)) from ∙ ap (λ (b : ℕ). is_lt (key_order (key_by of rows b) k)) is

@@ -1,7 +1,8 @@
 -- Addresses in ascending order, each once, as rows.
 use Rattle.std.proofs.Common.{◌≡◌, ℕ, ◌+◌, ◌<◌, ◌≤◌, Bool, true, false, ◌&&◌, ◌||◌, not, cond, List, [], ◌∷◌, length, get_or, zero, suc, refl, sym, ap, ◌∙◌, subst, Some, is_some, if◌then◌else◌, ◌==◌, eqb, nat_lt, ⊎_elim, arith}
 use Rattle.std.specs.List.{dedup, dedup_from, filter, remove}
-use Rattle.std.specs.List.Sorted.{IsStrictlyIncreasing}
+use Rattle.std.specs.List.Sorted.{IsNonDecreasing, IsStrictlyIncreasing}
+use Rattle.std.proofs.lemmas.List.Sorted.{IsNonDecreasingBy-from_default}
 use Rattle.std.proofs.lemmas.Bool.{cases_eq, eq-eqb, eqb-true, le-ltb, ne_eqb}
 use Rattle.std.proofs.lemmas.List.{get_or-map, length-map}
 use Rattle.kd_rows.specs.declared.row.Row.{Row}
@@ -9,7 +10,7 @@ use Rattle.kd_rows.specs.Index.{IsPlace}
 use Rattle.kd_rows.specs.Open.{address_row, address_rows}
 use Rattle.kd_rows.specs.Table.{Rise, RiseFrom, row_at}
 use Rattle.kd_rows.specs.Withheld.{is_withheld}
-use Rattle.kd_rows.proofs.Places.{absent_at, from_on, is_at, none_below, read_at, rise_from_steps}
+use Rattle.kd_rows.proofs.Places.{absent_at, apart, from_on, is_at, none_below, read_at, rise_from_steps}
 
 -- an address has a row among them if it is one of them
 pub row_listed : (xs : List ℕ) (a : ℕ) → is_some (row_at (address_rows xs) a) ≡ is_withheld xs a
@@ -36,6 +37,9 @@ rise_increasing xs rise = rise_from_steps 0 (address_rows xs) (λ d within. omeg
       let high = address_at xs j d (omega arith) in
       let less = subst (λ (k : ℕ). get_or xs i 0 < get_or xs k 0) next (rise i (omega arith)) in
       omega arith
+
+pub non_decreasing_rise : (xs : List ℕ) → Rise (address_rows xs) → IsNonDecreasing xs
+non_decreasing_rise xs rise = IsNonDecreasingBy-from_default (λ x. x) xs 0 (λ i j order within. omega (arith, length-map xs address_row, address_at xs i (address_row 0) (omega arith), address_at xs j (address_row 0) within, apart (address_rows xs) rise i j (address_row 0) order (omega (arith, length-map xs address_row))))
 
 -- if some are left out
 pub rise_filter : (p : ℕ → Bool) (n : ℕ) (xs : List ℕ) → RiseFrom n (address_rows xs) → RiseFrom n (address_rows (filter p xs))

@@ -240,15 +240,3 @@ newest_here cuts rows ages from start place first last client group before here 
 -- a walk begins
 pub passed_first : (rows : List Row) (ages : List ℕ) (start first last : ℕ) → Passed rows ages start start first last
 passed_first rows ages start first last = record { order = omega arith; others = λ i row low high there. absurd (omega arith) }
-
--- and passes a row that is not at the addresses
-pub passed_more : (rows : List Row) (ages : List ℕ) (start place first last : ℕ) (here : Row) → Passed rows ages start place first last → row_at rows here.address ≡ Some here → here.address ≡ get_or ages place 0 → is_between first last here ≡ false → Passed rows ages start (place + 1) first last
-passed_more rows ages start place first last here passed found at out = record {
-  order = let h = passed.order in omega arith;
-  others = λ i row low high there. ⊎_elim
-      (λ l. passed.others i row low l there)
-      (λ l. let e : i ≡ place = omega arith in
-      let same : row ≡ here = same_Some row here (sym there ∙ ap (λ (j : ℕ). row_at rows (get_or ages j 0)) e ∙ subst (λ (x : ℕ). row_at rows x ≡ Some here) at found) in
-      subst (λ (r : Row). is_between first last r ≡ false) (sym same) out)
-      (cases_lt i place);
-}

@@ -7,8 +7,8 @@ use Rattle.std.proofs.lemmas.List.{get_or_default}
 use Rattle.std.proofs.lemmas.Option.{slice_get_cases}
 use Rattle.kd_rows.specs.declared.row.Row.{Row}
 use Rattle.kd_rows.specs.Row.{IsInRange}
-use Rattle.kd_rows.specs.Table.{IsNext, Rise, RiseFrom, row_at}
-use Rattle.kd_rows.specs.Index.{IsRowPlace, IsPlace}
+use Rattle.kd_rows.specs.Table.{IsFirstGap, IsNext, Rise, RiseFrom, row_at}
+use Rattle.kd_rows.specs.Index.{IsRowPlace, IsPlace, row_in}
 
 -- rows that ascend from n on are at n or above
 pub from_on : (n : ℕ) (rows : List Row) → RiseFrom n rows → (i : ℕ) (d : Row) → i < length rows → n + i ≤ (get_or rows i d).address
@@ -42,6 +42,9 @@ same_at rows place d e within = ap (λ (r : Row). r.address) (get_or_default row
 pub read_at : (rows : List Row) (place : ℕ) (row d : Row) → place < length rows → row ≡ get_or rows place row → (get_or rows place d).address ≡ row.address
 read_at rows place row d within is = same_at rows place d row within ∙ sym (ap (λ (r : Row). r.address) is)
 
+pub row_read : (rows : List Row) (place : ℕ) → place < length rows → (row : Row) → row ≡ get_or rows place row → (row_in rows place).address ≡ row.address
+row_read rows place within row is = read_at rows place row (row_in [] 0) within is
+
 -- the row at an address is where the address is, if none before has that address
 pub found_at : (rows : List Row) (place a : ℕ) (d : Row) → place < length rows → ((i : ℕ) → i < place → (get_or rows i d).address < a) → (get_or rows place d).address ≡ a → row_at rows a ≡ Some (get_or rows place d)
 found_at [] place a d within below here = absurd (omega arith)
@@ -67,19 +70,13 @@ place_at rows a place rise within here = record {
   above = λ i d after inside. omega (arith, apart rows rise place i d after inside, here d);
 }
 
--- the search for an index: if the row in the middle is below an address, so are those before it
-pub below_more : (rows : List Row) (a middle : ℕ) (row : Row) → Rise rows → middle < length rows → row ≡ get_or rows middle row → row.address < a → (i : ℕ) (d : Row) → i < middle + 1 → (get_or rows i d).address < a
-below_more rows a middle row rise within is low i d before =
-    let at = read_at rows middle row d within is in
-    let h = apart rows rise i middle d (omega arith) within in
-    omega arith
-
--- and if it is not, no row from there on is
-pub above_less : (rows : List Row) (a middle : ℕ) (row : Row) → Rise rows → middle < length rows → row ≡ get_or rows middle row → a ≤ row.address → (i : ℕ) (d : Row) → middle ≤ i → i < length rows → a ≤ (get_or rows i d).address
-above_less rows a middle row rise within is high i d after inside =
-    let at = read_at rows middle row d within is in
-    let h = apart rows rise middle i d after inside in
-    omega arith
+-- the end of a search for an index: the row before it is below an address, and the row at it is not
+pub place_from : (rows : List Row) (a place : ℕ) → Rise rows → place ≤ length rows → (0 < place → (row_in rows (place - 1)).address < a) → (place < length rows → a ≤ (row_in rows place).address) → IsPlace rows a place
+place_from rows a place rise within low high = record {
+  in_range = within;
+  below = λ i d before. omega (arith, apart rows rise i (place - 1) d (omega arith) (omega arith), same_at rows (place - 1) d (row_in [] 0) (omega arith), low (omega arith));
+  above = λ i d after inside. omega (arith, apart rows rise place i d after inside, same_at rows place d (row_in [] 0) (omega arith), high (omega arith));
+}
 
 -- an address has no row if none is at its index
 pub absent_at : (rows : List Row) (a place : ℕ) → Rise rows → IsPlace rows a place → ((d : Row) → place < length rows → (get_or rows place d).address ≢ a) → row_at rows a ≡ None
@@ -102,37 +99,46 @@ is_at rows a place rise within here = record {
   below = λ i d before. (place_at rows a place rise within here).below i d before;
 }
 
--- the search for a gap: if the row in the middle is as far from `first` as its index, so are those
--- before it
-pub run_more : (rows : List Row) (first start middle : ℕ) (e : Row) → Rise rows → IsPlace rows first start → start ≤ middle → middle < length rows → e ≡ get_or rows middle e → e.address - first ≡ middle - start → (i : ℕ) (d : Row) → start ≤ i → i < middle + 1 → (get_or rows i d).address ≡ first + (i - start)
-run_more rows first start middle e rise p order within is run i d after before =
-    let at = read_at rows middle e d within is in
-    let low = p.above start d (omega arith) (omega arith) in
-    let left = apart rows rise start i d after (omega arith) in
-    let right = apart rows rise i middle d (omega arith) within in
-    omega arith
+-- from the index of `first` on, the rows before an index are at `first`, `first + 1` and so on, and
+-- those from it on are above
+pub record IsRunEnd (rows : List Row) (first start end : ℕ) : Type 0 where
+  pub rise : Rise rows
+  pub start_at : IsPlace rows first start
+  pub order : start ≤ end
+  pub in_range : end ≤ length rows
+  pub run : (i : ℕ) (d : Row) → start ≤ i → i < end → (get_or rows i d).address ≡ first + (i - start)
+  pub above : (i : ℕ) (d : Row) → end ≤ i → i < length rows → first + (i - start) < (get_or rows i d).address
 
-pub run_less : (rows : List Row) (first start middle : ℕ) (e : Row) → Rise rows → IsPlace rows first start → start ≤ middle → middle < length rows → e ≡ get_or rows middle e → (e.address - first ≡ middle - start → ⊥) → (i : ℕ) (d : Row) → middle ≤ i → i < length rows → first + (i - start) < (get_or rows i d).address
-run_less rows first start middle e rise p order within is run i d after before =
-    let at = read_at rows middle e d within is in
-    let low = p.above start d (omega arith) (omega arith) in
-    let left = apart rows rise start middle d order within in
-    let right = apart rows rise middle i d after before in
-    let far : (get_or rows middle d).address - first ≢ middle - start = (λ h. run (ap (λ (x : ℕ). x - first) (sym at) ∙ h)) in
-    omega arith
+-- the end of a search for it: the row before it is as far from `first` as its index, and the row at
+-- it is not
+pub run_from : (rows : List Row) (first start end : ℕ) → Rise rows → IsPlace rows first start → start ≤ end → end ≤ length rows → (start < end → (row_in rows (end - 1)).address - first ≡ end - 1 - start) → (end < length rows → (row_in rows end).address - first ≢ end - start) → IsRunEnd rows first start end
+run_from rows first start end rise p order within here other = record {
+  rise = rise;
+  start_at = p;
+  order = order;
+  in_range = within;
+  run = λ i d after before. omega (arith, here (omega arith), same_at rows (end - 1) d (row_in [] 0) (omega arith), p.above start d (omega arith) (omega arith), apart rows rise start i d after (omega arith), apart rows rise i (end - 1) d (omega arith) (omega arith));
+  above = λ i d after before. let n = other (omega arith) in omega (arith, n, same_at rows end d (row_in [] 0) (omega arith), p.above start d (omega arith) (omega arith), apart rows rise start end d order (omega arith), apart rows rise end i d after before);
+}
 
 -- every address of the run has a row
-pub run_has : (rows : List Row) (first start low : ℕ) → Rise rows → low ≤ length rows → ((i : ℕ) (d : Row) → start ≤ i → i < low → (get_or rows i d).address ≡ first + (i - start)) → (a : ℕ) → first ≤ a → a < first + (low - start) → IsSome (row_at rows a)
-run_has [] first start low rise within run a from before = absurd (omega arith)
-run_has (r ∷ rows) first start low rise within run a from before =
+run_has : (rows : List Row) (first start end : ℕ) → IsRunEnd rows first start end → (a : ℕ) → first ≤ a → a < first + (end - start) → IsSome (row_at rows a)
+run_has rows first start end e a from before =
     let i : ℕ = start + (a - first) in
-    let here : (d : Row) → (get_or (r ∷ rows) i d).address ≡ a = (λ d. let h = run i d (omega arith) (omega arith) in omega arith) in
-    ap is_some ((is_at (r ∷ rows) a i rise (omega arith) here).found r)
+    let here : (d : Row) → (get_or rows i d).address ≡ a = (λ d. omega (arith, e.run i d (omega arith) (omega arith))) in
+    ap is_some ((is_at rows a i e.rise (omega (arith, e.in_range)) here).found (row_in [] 0))
 
 -- the address after the run has none
-pub run_ends : (rows : List Row) (first start low : ℕ) → IsPlace rows first start → start ≤ low → ((i : ℕ) (d : Row) → start ≤ i → i < low → (get_or rows i d).address ≡ first + (i - start)) → ((i : ℕ) (d : Row) → low ≤ i → i < length rows → first + (i - start) < (get_or rows i d).address) → row_at rows (first + (low - start)) ≡ None
-run_ends rows first start low p order run above = none_at rows (first + (low - start))
-    (λ i d within e. ⊎_elim (λ before. let h = p.below i d before in omega arith) (λ after. ⊎_elim (λ inside. let h = run i d after inside in omega arith) (λ beyond. let h = above i d beyond within in omega arith) (cases_lt i low)) (cases_lt i start))
+run_ends : (rows : List Row) (first start end : ℕ) → IsRunEnd rows first start end → row_at rows (first + (end - start)) ≡ None
+run_ends rows first start end e = none_at rows (first + (end - start))
+    (λ i d within same. ⊎_elim (λ before. omega (arith, same, e.start_at.below i d before)) (λ after. ⊎_elim (λ inside. omega (arith, same, e.run i d after inside)) (λ beyond. omega (arith, same, e.order, e.above i d beyond within)) (cases_lt i end)) (cases_lt i start))
+
+-- the first gap is after the run, or past the last address
+pub gap_after : (rows : List Row) (first start end last : ℕ) → IsRunEnd rows first start end → first ≤ last → end - start ≤ last - first → IsFirstGap rows first last (Some (first + (end - start)))
+gap_after rows first start end last e order within = (omega arith, omega arith, run_ends rows first start end e, run_has rows first start end e)
+
+pub no_gap : (rows : List Row) (first start end last : ℕ) → IsRunEnd rows first start end → last - first < end - start → IsFirstGap rows first last None
+no_gap rows first start end last e past = λ a from before. run_has rows first start end e a from (omega arith)
 
 -- rows that ascend from n on have none below
 pub none_below : (n : ℕ) (rows : List Row) (a : ℕ) → RiseFrom n rows → a < n → row_at rows a ≡ None

@@ -16,15 +16,6 @@ Full {T} f n ts = (i : ℕ) (d : T) → i < length ts → length (f (get_or ts i
 full_rest : {T : Type 0} (f : T → List ℕ) (n : ℕ) (t : T) (ts : List T) → Full f n (t ∷ ts) → Full f (n - 4096) ts
 full_rest f n t ts full i d inside = let h = full (suc i) d (omega arith) in omega (arith, h)
 
--- all n numbers are in the tiers
-pub flat_length : {T : Type 0} (f : T → List ℕ) (n : ℕ) (ts : List T) → Full f n ts → n ≤ 4096 * length ts → length (flat_map f ts) ≡ n
-flat_length f n [] full most = omega (arith, most)
-flat_length f n (t ∷ ts) full most =
-    let first = full 0 t (omega arith) in
-    let rest = flat_length f (n - 4096) ts (full_rest f n t ts full) (omega (arith, most)) in
-    let both = length-append (f t) (flat_map f ts) in
-    omega (arith, first, rest, both)
-
 -- there are no more numbers than the tiers have room for
 pub flat_most : {T : Type 0} (f : T → List ℕ) (n : ℕ) (ts : List T) → Full f n ts → length (flat_map f ts) ≤ 4096 * length ts
 flat_most f n [] full = omega arith
@@ -155,24 +146,6 @@ carried_first f capacity old place number d t over are most room read is long lo
       some = λ h. let it = full h in omega (arith, was, it, long, h, one);
       none = λ h. omega (arith, was, long, low, h);
       roomy = roomy_set capacity old (place / 4096) t roomy are.roomy;
-    }
-
--- what came out of a tier comes into the next
-pub carried_more : {T : Type 0} (f : T → List ℕ) (capacity : T → ℕ) (old now : List T) (place number i last : ℕ) (d t : T) (over : List ℕ) → IsCarried f capacity old now place number i (last ∷ []) → i + 1 < length now → d ≡ get_or now (i + 1) d → last ∷ f d ≡ f t ++ over → length (f t) + length over ≡ length (f d) + 1 → length (f t) ≤ 4096 → (0 < length over → length (f t) ≡ 4096) → length over ≤ 1 → 4096 ≤ capacity t → IsCarried f capacity old (set now (i + 1) t) place number (i + 1) over
-carried_more {T} f capacity old now place number i last d t over it inside read is long low full one roomy =
-    let n = length-set now (i + 1) t in
-    let was = ap (λ (x : T). length (f x)) read ∙ it.above (i + 1) d (omega arith) inside in
-    let some = it.some (omega arith) in
-    record {
-      inside = omega (arith, n, inside);
-      count = n ∙ it.count;
-      most = one;
-      same = exchanged f now (i + 1) t _ (last ∷ f d) over inside is (it.same ∙ ap (λ (ys : List T). flat_map f (take (i + 1) now) ++ (last ∷ flat_map f ys)) (drop_more now (i + 1) d inside) ∙ ap (λ (x : T). flat_map f (take (i + 1) now) ++ ((last ∷ f x) ++ flat_map f (drop (i + 1 + 1) now))) (sym read));
-      below = full_before f (length (flat_map f old) + 1) now (i + 1) t inside (grown f (length (flat_map f old)) (i + 1) d t over was some long low full one) it.below;
-      above = full_after f (length (flat_map f old)) now (i + 1) t (λ j e above within. it.above j e (omega (arith, above)) within);
-      some = λ h. let it = full h in omega (arith, was, it, long, h, one, some);
-      none = λ h. omega (arith, was, long, low, h, some);
-      roomy = roomy_set capacity now (i + 1) t roomy it.roomy;
     }
 
 -- nothing came out of a tier: the number is among the others

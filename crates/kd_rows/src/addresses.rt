@@ -5,6 +5,7 @@ ghost use Rattle.kd_rows.specs.Table.{IsFirstGap, Rise, row_at};
 ghost use Rattle.kd_rows.specs.Withheld.{is_withheld};
 
 use crate::find::find;
+use crate::search::first_past;
 use crate::sorted::Sorted;
 use std::alloc::AllocError;
 
@@ -33,17 +34,7 @@ pub(crate) fn place_in(addresses: &[u32], address: u32) -> usize
     requires { Rise (address_rows addresses.now) }
     ensures { IsPlace (address_rows addresses.now) address result }
 {
-    let mut low = 0;
-    let mut high = addresses.len();
-    'halves: while low < high {
-        let middle = low + (high - low) / 2;
-        if at(addresses, middle) < address {
-            low = middle + 1;
-        } else {
-            high = middle;
-        }
-    }
-    low
+    addresses.partition_point(|other| *other < address)
 }
 
 // Whether an address is one of them.
@@ -63,17 +54,10 @@ pub(crate) fn first_outside(addresses: &[u32], first: u32, last: u32) -> Option<
     ensures { IsFirstGap (address_rows addresses.now) first last result }
 {
     let start = place_in(addresses, first);
-    let mut low = start;
-    let mut high = addresses.len();
-    'halves: while low < high {
-        let middle = low + (high - low) / 2;
-        if (at(addresses, middle) - first) as usize == middle - start {
-            low = middle + 1;
-        } else {
-            high = middle;
-        }
-    }
-    let run = low - start;
+    let end = first_past(start, addresses.len(), |place| {
+        (at(addresses, place) - first) as usize == place - start
+    });
+    let run = end - start;
     if run <= (last - first) as usize {
         Some(first + run as u32)
     } else {

@@ -12,6 +12,7 @@ ghost use Rattle.kd_rows.specs.declared.row.Row.{Row as RowOf};
 
 use crate::heads::head_of;
 use crate::row::Row;
+use crate::search::first_past;
 use crate::sorted::Sorted;
 use crate::zones::Zones;
 
@@ -103,17 +104,7 @@ pub(crate) fn age_place(rows: &Sorted, place: &Age) -> usize
         (key_of_age place.now) result }
 {
     let head = head_of(place.client);
-    let mut low = 0;
-    let mut high = rows.ages_len();
-    'halves: while low < high {
-        let middle = low + (high - low) / 2;
-        if is_before(rows, middle, head, place) {
-            low = middle + 1;
-        } else {
-            high = middle;
-        }
-    }
-    low
+    first_past(0, rows.ages_len(), |i| is_before(rows, i, head, place))
 }
 
 // Whether a key comes after the keys before an index of the age index.

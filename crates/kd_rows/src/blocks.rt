@@ -5,6 +5,7 @@ ghost use Rattle.kd_rows.specs.Table.{Rise, row_at, with_row};
 use crate::addresses::is_among;
 use crate::numbers::number_of;
 use crate::open_rows::OpenRows;
+use crate::search::first_past;
 use crate::tiered::Tiered;
 use std::alloc::{AllocError, Global};
 use std::marker::Model;
@@ -80,17 +81,7 @@ impl Blocks {
         requires { Rise self.now.rows }
         ensures { IsPlace self.now.rows block result }
     {
-        let mut low = 0;
-        let mut high = self.order.len();
-        'halves: while low < high {
-            let middle = low + (high - low) / 2;
-            if self.at(middle).block < block {
-                low = middle + 1;
-            } else {
-                high = middle;
-            }
-        }
-        low
+        first_past(0, self.len(), |place| self.at(place).block < block)
     }
 
     // Returns the bound of a block, if it has one.

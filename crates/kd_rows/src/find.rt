@@ -2,6 +2,7 @@ ghost use Rattle.std.specs.Prelude.{◌≡◌, ◌≤◌};
 ghost use Rattle.kd_rows.specs.Index.{IsFound};
 ghost use Rattle.kd_rows.specs.Table.{IsFirstGap, Rise};
 
+use crate::search::first_past;
 use crate::sorted::Sorted;
 
 // Returns the index of the row at an address, if there is one.
@@ -26,17 +27,10 @@ pub(crate) fn gap_in(rows: &Sorted, first: u32, last: u32) -> Option<u32>
     ensures { IsFirstGap rows.now.rows first last result }
 {
     let start = rows.place_of(first);
-    let mut low = start;
-    let mut high = rows.len();
-    'halves: while low < high {
-        let middle = low + (high - low) / 2;
-        if (rows.address(middle) - first) as usize == middle - start {
-            low = middle + 1;
-        } else {
-            high = middle;
-        }
-    }
-    let run = low - start;
+    let end = first_past(start, rows.len(), |place| {
+        (rows.address(place) - first) as usize == place - start
+    });
+    let run = end - start;
     if run <= (last - first) as usize {
         Some(first + run as u32)
     } else {

@@ -5,6 +5,7 @@ ghost use Rattle.kd_rows.specs.Table.{Rise};
 ghost use Rattle.kd_rows.specs.Withheld.{IsFirstFree};
 
 use crate::addresses::{first_outside, place_in};
+use crate::search::first_past;
 use crate::sorted::Sorted;
 
 // Returns the lowest address from `first` to `last` that has no row and is not withheld. All
@@ -38,17 +39,9 @@ fn taken_end(rows: &Sorted, bare: &[u32], first: u32, start: usize) -> usize
     ensures { IsTakenEnd rows.now.rows bare.now first start result }
 {
     let skip = place_in(bare, first);
-    let mut low = start;
-    let mut high = rows.len();
-    'halves: while low < high {
-        let middle = low + (high - low) / 2;
-        let address = rows.address(middle);
+    first_past(start, rows.len(), |place| {
+        let address = rows.address(place);
         let taken = place_in(bare, address) - skip;
-        if (address - first) as usize - (middle - start) == taken {
-            low = middle + 1;
-        } else {
-            high = middle;
-        }
-    }
-    low
+        (address - first) as usize - (place - start) == taken
+    })
 }

@@ -7,6 +7,7 @@ ghost use Rattle.kd_rows.specs.Table.{IsNextOf, Rise, addresses_of};
 
 use crate::heads::head_of;
 use crate::row::Row;
+use crate::search::first_past;
 use crate::sorted::Sorted;
 use std::cmp::Ordering;
 
@@ -42,17 +43,11 @@ pub(crate) fn key_place(rows: &Sorted, client: &[u8], address: u32) -> usize
     ensures { IsKeyPlace (key_at rows.now.rows) rows.now.index (client.now, address) result }
 {
     let head = head_of(client);
-    let mut low = 0;
-    let mut high = rows.index_len();
-    'halves: while low < high {
-        let middle = low + (high - low) / 2;
-        if is_before(rows, middle, head, (client, address)) {
-            low = middle + 1;
-        } else {
-            high = middle;
-        }
-    }
-    low
+    first_past(
+        0,
+        rows.index_len(),
+        |i| is_before(rows, i, head, (client, address)),
+    )
 }
 
 // Returns the `i`-th of a client's addresses, if it has that many.

@@ -1,9 +1,12 @@
-ghost use Rattle.std.specs.Prelude.{◌≡◌, ◌≢◌, ◌↔◌, IfOk, IsTrue, MatchOption};
+ghost use Rattle.std.specs.Prelude.{◌≡◌, ◌≢◌, ◌↔◌, IfOk, IsTrue, MatchOption, nat_lt};
 ghost use Rattle.kd_rows.specs.Row.{IsInRange, state_number};
 ghost use Rattle.kd_rows.specs.declared.row.State.{State};
 
 use kd_wire::Bytes;
 use std::alloc::{AllocError, Global};
+
+/// The first time, in whole seconds, that is too large for a row to be set at.
+pub const MOMENTS: u64 = 1 << 40;
 
 /// What became of an address that was offered or leased.
 #[derive(Clone, Copy, PartialEq, Eq)]
@@ -67,9 +70,16 @@ impl Row {
     pub fn is_in_range(&self) -> bool
         ensures { IsTrue result ↔ IsInRange self.now }
     {
-        self.changed < 1 << 40
+        self.changed < MOMENTS
             && self.changed <= self.ends
             && self.ends - self.changed <= 0x7fff_ffff
+    }
+
+    /// Reports whether the row holds at a time, in seconds: it has not ended yet.
+    pub fn is_live(&self, now: u64) -> bool
+        ensures { result ≡ nat_lt now self.now.ends }
+    {
+        now < self.ends
     }
 
     /// Returns a copy of the row.

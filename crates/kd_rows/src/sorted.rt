@@ -8,6 +8,7 @@ ghost use Rattle.kd_rows.specs.Table.{Rise, row_at, with_row};
 use crate::heads::{addresses_by_slot, head_of, heads_by_slot};
 use crate::numbers::{number_of, numbers_by_address, numbers_by_age, numbers_by_client};
 use crate::row::Row;
+use crate::search::first_past;
 use crate::tiered::Tiered;
 use crate::zones::Zones;
 use std::alloc::AllocError;
@@ -180,17 +181,11 @@ impl Sorted {
     pub(crate) fn place_of(&self, address: u32) -> usize
         ensures { IsPlace self.now.rows address result }
     {
-        let mut low = 0;
-        let mut high = self.by_address.len();
-        'halves: while low < high {
-            let middle = low + (high - low) / 2;
-            if self.address(middle) < address {
-                low = middle + 1;
-            } else {
-                high = middle;
-            }
-        }
-        low
+        first_past(
+            0,
+            self.by_address.len(),
+            |place| self.address(place) < address,
+        )
     }
 
     // Returns the number of further rows for which there is room.

@@ -37,17 +37,8 @@ impl Zones {
     pub(crate) fn of(&self, address: u32) -> u32
         ensures { result ≡ zone_in self.now address }
     {
-        let mut low = 0;
-        let mut high = self.cuts.len();
-        'halves: while low < high {
-            let middle = low + (high - low) / 2;
-            if self.cuts[middle] <= address {
-                low = middle + 1;
-            } else {
-                high = middle;
-            }
-        }
-        low.min(0xffff_ffff) as u32
+        let zone = self.cuts.as_slice().partition_point(|cut| *cut <= address);
+        zone.min(0xffff_ffff) as u32
     }
 
     // Returns the group of a row.

@@ -1,21 +1,20 @@
-use Rattle.std.proofs.Common.{arith}
+use Rattle.std.proofs.Common.{ℕ, List, arith, ltb, rules}
+use Rattle.std.proofs.lemmas.Bool.{ltb-false, ltb-true}
 use Rattle.std.proofs.lemmas.List.{length-map}
-use Rattle.kd_rows.specs.Open.{address_row, address_rows}
-use Rattle.kd_rows.proofs.Places.{above_less, below_more}
+use Rattle.std.proofs.lemmas.List.Sorted.{IsPartitionPoint-from_clause, IsPartitionedBy-ltb}
+use Rattle.kd_rows.specs.Open.{address_row}
+use Rattle.kd_rows.proofs.Listed.{address_at, non_decreasing_rise}
 use Rattle.kd_rows.proofs.addresses.place_in.Goals as goal
 
-pub halves-preserved-then-at-address : goal.halves-preserved-then-at-address
-halves-preserved-then-at-address c = record {
-  order = omega arith;
-  in_range = omega (arith, c.halves.invariant.in_range);
-  below = below_more (address_rows c.args.addresses.now) c.args.address _ (address_row c.at.result) c.requires (omega (arith, length-map c.args.addresses.now address_row)) c.at.ensures c.if-at-address.true;
-  above = c.halves.invariant.above;
-}
-
-pub halves-preserved : goal.halves-preserved
-halves-preserved c = record {
-  order = omega arith;
-  in_range = omega (arith, c.halves.invariant.in_range);
-  below = c.halves.invariant.below;
-  above = above_less (address_rows c.args.addresses.now) c.args.address _ (address_row c.at.result) c.requires (omega (arith, length-map c.args.addresses.now address_row)) c.at.ensures (omega (arith, c.if-at-address.false));
-}
+pub returns : goal.returns
+returns c =
+    let xs : List ℕ = c.args.addresses.now in
+    let a : ℕ = c.args.address in
+    let long = length-map xs address_row in
+    let parted = IsPartitionedBy-ltb (λ x. x) xs a (non_decreasing_rise xs c.requires) in
+    let point = IsPartitionPoint-from_clause (λ x. ltb x a) xs _ c.partition_point.ensures.partitioned parted (λ a r q k. search rules) in
+    record {
+      in_range = omega (arith, c.partition_point.ensures.bound, long);
+      below = λ i d before. omega (arith, address_at xs i d (omega (arith, c.partition_point.ensures.bound)), ltb-true _ _ (point.0 i 0 (omega arith) before));
+      above = λ i d after inside. omega (arith, address_at xs i d (omega (arith, long)), ltb-false _ _ (point.1 i 0 after (omega (arith, long))));
+    }

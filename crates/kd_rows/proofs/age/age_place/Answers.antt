@@ -1,29 +1,8 @@
-use Rattle.std.proofs.Common.{ℕ, ◌+◌, ◌-◌, ◌/◌, List, arith, sym, ◌∙◌}
+use Rattle.std.proofs.Common.{arith, rules}
 use Rattle.kd_rows.specs.Ages.{key_of_age}
 use Rattle.kd_rows.specs.Index.{age_at}
-use Rattle.kd_rows.proofs.Keys.{below_if, high_less, low_more, not_below_if}
+use Rattle.kd_rows.proofs.Keys.{key_place_from}
 use Rattle.kd_rows.proofs.age.age_place.Goals as goal
 
-pub halves-preserved-then-is_before : goal.halves-preserved-then-is_before
-halves-preserved-then-is_before c =
-    let k : List ℕ × ℕ = key_of_age c.args.place.now in
-    let key : ℕ → List ℕ × ℕ = age_at c.args.rows.now.cuts c.args.rows.now.rows in
-    let middle : ℕ = c.halves.low + (c.halves.high - c.halves.low) / 2 in
-    record {
-      order = omega arith;
-      in_range = omega arith;
-      below = low_more key c.args.rows.now.ages k middle c.requires (omega arith) (below_if _ k (sym c.is_before.ensures ∙ c.if-is_before.true));
-      above = c.halves.invariant.above;
-    }
-
-pub halves-preserved : goal.halves-preserved
-halves-preserved c =
-    let k : List ℕ × ℕ = key_of_age c.args.place.now in
-    let key : ℕ → List ℕ × ℕ = age_at c.args.rows.now.cuts c.args.rows.now.rows in
-    let middle : ℕ = c.halves.low + (c.halves.high - c.halves.low) / 2 in
-    record {
-      order = omega arith;
-      in_range = omega arith;
-      below = c.halves.invariant.below;
-      above = high_less key c.args.rows.now.ages k middle c.requires (not_below_if _ k (sym c.is_before.ensures ∙ c.if-is_before.false));
-    }
+pub returns : goal.returns
+returns c = key_place_from (age_at c.args.rows.now.cuts c.args.rows.now.rows) c.args.rows.now.ages (key_of_age c.args.place.now) c.first_past.result c.requires (omega (arith, c.first_past.ensures.in_range, c.ages_len.ensures)) (λ h. search (rules, c.first_past.ensures.before h)) (λ h. search (rules, c.first_past.ensures.past (omega (arith, h, c.ages_len.ensures))))

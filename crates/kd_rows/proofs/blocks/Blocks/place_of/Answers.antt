@@ -1,20 +1,12 @@
-use Rattle.std.proofs.Common.{arith}
-use Rattle.kd_rows.specs.Index.{bound_row}
-use Rattle.kd_rows.proofs.Places.{above_less, below_more}
+use Rattle.std.proofs.Common.{ℕ, ◌-◌, List, arith, rules}
+use Rattle.kd_rows.specs.declared.row.Row.{Row}
+use Rattle.kd_rows.proofs.Places.{place_from, row_read}
 use Rattle.kd_rows.proofs.blocks.Blocks.place_of.Goals as goal
 
-pub halves-preserved-then-at-block : goal.halves-preserved-then-at-block
-halves-preserved-then-at-block c = record {
-  order = omega arith;
-  in_range = omega arith;
-  below = below_more c.args.self.now.rows c.args.block _ (bound_row c.at.result) c.requires (omega arith) c.at.ensures c.if-at-block.true;
-  above = c.halves.invariant.above;
-}
-
-pub halves-preserved : goal.halves-preserved
-halves-preserved c = record {
-  order = omega arith;
-  in_range = omega arith;
-  below = c.halves.invariant.below;
-  above = above_less c.args.self.now.rows c.args.block _ (bound_row c.at.result) c.requires (omega arith) c.at.ensures (omega (arith, c.if-at-block.false));
-}
+pub returns : goal.returns
+returns c =
+    let rows : List Row = c.args.self.now.rows in
+    let place : ℕ = c.first_past.result in
+    place_from rows c.args.block place c.requires (omega (arith, c.first_past.ensures.in_range, c.len.ensures))
+    (λ h. search (rules, c.first_past.ensures.before h, row_read rows (place - 1) (omega (arith, h, c.first_past.ensures.in_range, c.len.ensures))))
+    (λ h. search (rules, c.first_past.ensures.past (omega (arith, h, c.len.ensures)), row_read rows place h))

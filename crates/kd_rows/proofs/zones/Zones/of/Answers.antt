@@ -1,12 +1,16 @@
-use Rattle.std.proofs.Common.{◌≡◌, ◌≤◌, ℕ, List, ap, arith, length, min, sym, ◌∙◌}
+use Rattle.std.proofs.Common.{leb, ℕ, List, ap, arith, min, rules, subst, sym, ◌∙◌, ◌≡◌}
+use Rattle.std.specs.List.Sorted.{IsNonDecreasing}
+use Rattle.std.proofs.lemmas.Bool.{leb-false, leb-true}
+use Rattle.std.proofs.lemmas.List.Sorted.{IsPartitionPoint-from_clause, IsPartitionedBy-leb}
 use Rattle.kd_rows.specs.Zones.{cuts_to, zone_in}
 use Rattle.kd_rows.proofs.Zoning.{cuts_at}
 use Rattle.kd_rows.proofs.zones.Zones.of.Goals as goal
 
 pub returns : goal.returns
 returns c =
-    let low = c.halves.low in
-    let end : c.halves.high ≤ low = c.halves-test.false in
-    let within : low ≤ length c.self.inside.cuts.items = omega (arith, c.halves.invariant.order, c.halves.invariant.within) in
-    let e : cuts_to c.self.inside.cuts.items c.args.address ≡ low = cuts_at c.self.inside.cuts.items c.args.address low within c.halves.invariant.below (λ i le less. c.halves.invariant.above i (omega arith) less) in
-    c.min.ensures ∙ ap (λ n. min n 4294967295) (sym e) ∙ ap (λ (cuts : List ℕ). zone_in cuts c.args.address) c.self.view_is
+    let cuts : List ℕ = c.as_slice.result.now in
+    let same : cuts ≡ c.self.inside.cuts.items = c.as_slice.ensures.value in
+    let rise : IsNonDecreasing cuts = subst IsNonDecreasing (sym same) c.self.invariant in
+    let point = IsPartitionPoint-from_clause (λ x. leb x c.args.address) cuts _ c.partition_point-zone.ensures.partitioned (IsPartitionedBy-leb (λ x. x) cuts c.args.address rise) (λ a r q k. search rules) in
+    let e : cuts_to cuts c.args.address ≡ c.partition_point-zone.result = cuts_at cuts c.args.address _ c.partition_point-zone.ensures.bound (λ i less. leb-true _ _ (point.0 i 0 (omega arith) less)) (λ i le less. leb-false _ _ (point.1 i 0 le less)) in
+    c.min.ensures ∙ ap (λ n. min n 4294967295) (sym e) ∙ ap (λ (cuts : List ℕ). zone_in cuts c.args.address) (same ∙ c.self.view_is)
