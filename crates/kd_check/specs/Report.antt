@@ -8,11 +8,11 @@ use Rattle.kd_check.specs.Mark.{line_numbered, place_lines}
 use Rattle.kd_check.specs.Words.{test_place, test_words, tokens_words}
 use Rattle.kd_classes.specs.declared.fault.ClassFault.{ClassFault}
 use Rattle.kd_classes.specs.declared.fault.ClassFault.TheVariants as classes
-use Rattle.kd_config.specs.Document.{value_spelled}
-use Rattle.kd_config.specs.declared.fault.ConfigFault.{ConfigFault}
-use Rattle.kd_config.specs.declared.fault.ConfigFault.TheVariants as faults
-use Rattle.kd_config.specs.declared.fault.FileTestFault.{FileTestFault}
-use Rattle.kd_config.specs.declared.fault.TestFault.{TestFault}
+use Rattle.kd_json.specs.Document.{value_spelled}
+use Rattle.kd_json.specs.declared.fault.ConfigFault.{ConfigFault}
+use Rattle.kd_json.specs.declared.fault.ConfigFault.TheVariants as faults
+use Rattle.kd_json.specs.declared.fault.FileTestFault.{FileTestFault}
+use Rattle.kd_json.specs.declared.fault.TestFault.{TestFault}
 use Rattle.serde_json.specs.Data.{Data, depth}
 use Rattle.serde_json.specs.Read.{read, max_depth}
 use Rattle.serde_json.specs.Written.{compact_text, has_float}

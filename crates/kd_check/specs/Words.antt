@@ -2,10 +2,10 @@
 use Rattle.std.specs.Prelude.{ℕ, List, ◌++◌, codes, decimal, Option, Some, None}
 use Rattle.kd_compile.specs.declared.fault.CompileFault.{CompileFault}
 use Rattle.kd_compile.specs.declared.fault.CompileFault.TheVariants as compiling
-use Rattle.kd_config.specs.declared.fault.FileTestFault.{FileTestFault}
-use Rattle.kd_config.specs.declared.fault.FileTestFault.TheVariants as tokens
-use Rattle.kd_config.specs.declared.fault.TestFault.{TestFault}
-use Rattle.kd_config.specs.declared.fault.TestFault.TheVariants as tests
+use Rattle.kd_json.specs.declared.fault.FileTestFault.{FileTestFault}
+use Rattle.kd_json.specs.declared.fault.FileTestFault.TheVariants as tokens
+use Rattle.kd_json.specs.declared.fault.TestFault.{TestFault}
+use Rattle.kd_json.specs.declared.fault.TestFault.TheVariants as tests
 use Rattle.kd_expr.specs.declared.fault.ExprFault.{ExprFault}
 use Rattle.kd_expr.specs.declared.fault.ExprFault.TheVariants as reading
 use Rattle.kd_expr.specs.declared.fault.TypeFault.{TypeFault}

@@ -1,7 +1,7 @@
 ghost use Rattle.std.specs.Prelude.{◌≡◌, ◌++◌, IfOk, OnOk, codes, option_map, string_bytes, Option, ℕ};
 ghost use Rattle.kd_check.specs.Lookup.{class_text, class_title, file_title};
 ghost use Rattle.kd_check.specs.Report.{class_line, said_line, test_report, tokens_line};
-ghost use Rattle.kd_config.specs.Document.{value_spelled};
+ghost use Rattle.kd_json.specs.Document.{value_spelled};
 ghost use Rattle.serde_json.specs.View.{view};
 
 use crate::line::line_about;
@@ -9,7 +9,7 @@ use crate::lookup::{class_member, spelled_value, test_text};
 use crate::mark::put_place;
 use crate::words::{place_in_test, put_tokens_words, words_of_test};
 use kd_classes::ClassFault;
-use kd_config::{FileTestFault, TestFault};
+use kd_json::{FileTestFault, TestFault};
 use serde_json::Value;
 use std::alloc::{AllocError, Global};
 

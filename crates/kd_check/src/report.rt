@@ -6,7 +6,7 @@ use crate::line::{line_about, line_of_all};
 use crate::lookup::spelled_value;
 use crate::unread::json_report_in;
 use crate::value::value_line;
-use kd_config::ConfigFault;
+use kd_json::ConfigFault;
 use std::alloc::{AllocError, Global};
 
 /// Reports in words what is wrong with the text of a configuration: one or three lines, each with

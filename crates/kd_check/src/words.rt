@@ -2,8 +2,8 @@ ghost use Rattle.std.specs.Prelude.{◌≡◌, ◌++◌, OnOk, string_bytes};
 ghost use Rattle.kd_check.specs.Words.{compiling_words, file_words, reading_place, reading_words, test_place, test_words, tokens_words, typing_place, typing_words, verifying_words};
 
 use kd_compile::CompileFault;
-use kd_config::{FileTestFault, TestFault};
 use kd_expr::{ExprFault, TypeFault};
+use kd_json::{FileTestFault, TestFault};
 use kd_token::{FileFault, VerifyFault};
 use std::alloc::AllocError;
 use std::fmt::Write;

@@ -5,8 +5,8 @@ use Rattle.std.proofs.lemmas.Bool.Decides.{nat_tests}
 use Rattle.std.proofs.lemmas.List.Folds.{list_any-append}
 use Rattle.std.specs.List.{list_any}
 use Rattle.std.specs.Prelude.{Some, slice_get}
-use Rattle.kd_config.proofs.Came.{both_passed, some_is}
-use Rattle.kd_config.proofs.Steps.{not_and, or_false}
+use Rattle.kd_config.proofs.Tests.{both_passed, some_is}
+use Rattle.kd_config.proofs.Tests.{not_and, or_false}
 use Rattle.kd_config.specs.Apart.{lie_apart, has, share_one}
 use Rattle.kd_config.specs.Laws.{AddressHasOnePool}
 use Rattle.kd_config.specs.Rules.{all_obey, pool_ranges, may_stand, ranges_in}

@@ -5,8 +5,8 @@ use Rattle.std.proofs.lemmas.List.Folds.{list_any-append}
 use Rattle.std.proofs.lemmas.Slice.Eq.{bytes_eq-Decides}
 use Rattle.std.specs.List.{list_all, list_any}
 use Rattle.std.specs.Prelude.{Some, nat_eq, slice_get, ◌||◌}
-use Rattle.kd_config.proofs.Came.{both_passed, some_is}
-use Rattle.kd_config.proofs.Steps.{or_false}
+use Rattle.kd_config.proofs.Tests.{both_passed, some_is}
+use Rattle.kd_config.proofs.Tests.{or_false}
 use Rattle.kd_config.specs.Address.{has_address}
 use Rattle.kd_config.specs.Apart.{lie_apart}
 use Rattle.kd_config.specs.Laws.{AddressHasOneReservation, ClientHasOneReservation}

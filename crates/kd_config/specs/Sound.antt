@@ -10,7 +10,6 @@ use Rattle.kd_config.specs.Address.{network_address, prefix_size}
 use Rattle.kd_config.specs.Configuration.{Configuration}
 use Rattle.kd_config.specs.Options.{code_among, own_codes}
 use Rattle.kd_config.specs.Rules.{may_stand}
-use Rattle.kd_config.specs.Settings.{longest_lease}
 use Rattle.kd_config.specs.declared.pool.Pool.{Pool}
 use Rattle.kd_config.specs.declared.prefix.Prefix.{Prefix}
 use Rattle.kd_config.specs.declared.range.Range.{Range}
@@ -40,6 +39,10 @@ pub record AreOptions (options : List OptionData) : Type 0 where
   pub few : length options ≤ 64
   pub each : AllByRecursion IsOption options
   pub own : HaveOwnCodes options
+
+-- the longest lease time, in seconds
+abbrev pub longest_lease : ℕ
+longest_lease = 2147483647
 
 -- lease and offer times: T1 is at most T2, and T2 at most the lifetime
 pub record AreTimes (times : Times) : Type 0 where

@@ -25,13 +25,13 @@ impl Config {
     {
         let mut subnets = Vec::new(alloc);
         subnets.push(builtin_subnet(alloc)?)?;
-        Ok(Config {
-            server: 0xc000_0201,
-            times: builtin_times(),
-            options: OptionList::own(Vec::new(alloc)),
-            classes: no_classes(alloc),
-            subnets: Entries::own(subnets),
-        })
+        Ok(Config::of(
+            0xc000_0201,
+            builtin_times(),
+            OptionList::own(Vec::new(alloc)),
+            no_classes(alloc),
+            Entries::own(subnets),
+        ))
     }
 }
 

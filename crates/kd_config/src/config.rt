@@ -11,11 +11,11 @@ use std::marker::Model;
 /// subnets and the classes obey their rules (`specs/Sound.antt`).
 #[derive(Drop)]
 pub struct Config {
-    pub(crate) server: u32,
-    pub(crate) times: Times,
-    pub(crate) options: OptionList,
-    pub(crate) classes: Classes,
-    pub(crate) subnets: Entries<Subnet>,
+    server: u32,
+    times: Times,
+    options: OptionList,
+    classes: Classes,
+    subnets: Entries<Subnet>,
 }
 
 impl Model for Config {
@@ -42,6 +42,38 @@ impl Model for Config {
 }
 
 impl Config {
+    /// Makes the configuration of its parts.
+    pub fn of(
+        server: u32,
+        times: Times,
+        options: OptionList,
+        classes: Classes,
+        subnets: Entries<Subnet>,
+    ) -> Config
+        requires { IsSound (record {
+          server = server;
+          times = times;
+          options = options;
+          classes = classes;
+          subnets = subnets;
+        }) }
+        ensures { result ≡ record {
+          server = server;
+          times = times;
+          options = options;
+          classes = classes;
+          subnets = subnets;
+        } }
+    {
+        Config {
+            server,
+            times,
+            options,
+            classes,
+            subnets,
+        }
+    }
+
     /// Returns the server's address, in host order; never 0.0.0.0.
     pub fn server(&self) -> u32
         ensures same { result ≡ self.now.server }

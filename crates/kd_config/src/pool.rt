@@ -1,19 +1,5 @@
-ghost use Rattle.std.specs.Prelude.{◌≡◌};
-ghost use Rattle.serde_json.specs.View.{view};
-ghost use Rattle.kd_config.specs.Gives.{Means};
-ghost use Rattle.kd_config.specs.Pool.{has_pool_keys, pool_of, pool_range};
-ghost use Rattle.kd_config.specs.Steps.{must};
-ghost use Rattle.kd_config.specs.declared.objects.faults.SettingsFault.TheVariants.{Memory};
-
-use crate::objects::faults::SettingsFault;
-use crate::objects::lists::Entry;
-use crate::objects::options::options_of;
-use crate::objects::values::check_keys;
-use crate::range::{Range, range_of};
-use crate::rules::place::{Place, bad_value};
+use crate::range::Range;
 use kd_classes::OptionList;
-use serde_json::Value;
-use std::alloc::Global;
 
 /// An address pool of a subnet.
 #[derive(Drop)]
@@ -22,34 +8,4 @@ pub struct Pool {
     pub range: Range,
     /// The options of the replies that assign an address of the pool.
     pub options: OptionList,
-}
-
-impl Entry for Pool {
-    ghost means = { pool_of };
-
-    #[tactic(auto, unfolding(crate::specs::Pool::pool_of))]
-    fn read(alloc: Global, value: &Value, at: &Place<'_>) -> Result<Pool, SettingsFault> {
-        check_pool(alloc, value, at)?;
-        let Some(range) = value.get("pool").and_then(range_in) else {
-            return Err(bad_value(alloc, at, "pool"));
-        };
-        let options = options_of(alloc, value, at)?;
-        Ok(Pool { range, options })
-    }
-}
-
-// Checks that the value is an object with the keys of a pool.
-#[tactic(auto, unfolding(crate::specs::Pool::has_pool_keys))]
-fn check_pool(alloc: Global, value: &Value, at: &Place<'_>) -> Result<(), SettingsFault>
-    ensures { Means Memory result (must (has_pool_keys (view value.now))) }
-{
-    check_keys(alloc, value, at, &["pool", "option-data"], &["pool"])
-}
-
-// Returns the addresses of a pool.
-#[tactic(auto, unfolding(crate::specs::Pool::pool_range))]
-fn range_in(value: &Value) -> Option<Range>
-    ensures { result ≡ pool_range (view value.now) }
-{
-    range_of(value.as_str()?.as_bytes())
 }

@@ -1,8 +1,4 @@
-ghost use Rattle.std.specs.Prelude.{◌≡◌, ◌+◌, ◌^◌, ◌≤◌, ◌&&◌, nat_le};
-ghost use Rattle.kd_config.specs.Address.{range_from, range_of_parts, range_spelled, prefix_range, prefix_size};
-
-use crate::prefix::{Prefix, prefix_of};
-use crate::text::address::{address_of, cut_at, without_first_spaces, without_last_spaces};
+ghost use Rattle.std.specs.Prelude.{◌≡◌, ◌&&◌, nat_le};
 
 /// The addresses of a pool: at least 1 and at most 65,536, in host order.
 #[derive(Clone, Copy, PartialEq, Eq)]
@@ -19,46 +15,5 @@ impl Range {
         ensures { result ≡ (nat_le self.first address && nat_le address self.last) }
     {
         self.first <= address && address <= self.last
-    }
-}
-
-// Returns the range from the first to the last address, if it has 1 to 65,536 addresses.
-fn between(first: u32, last: u32) -> Option<Range>
-    ensures { result ≡ range_from first last }
-{
-    if first <= last && last - first < 65_536 {
-        Some(Range { first, last })
-    } else {
-        None
-    }
-}
-
-// Returns the addresses of a prefix as a range.
-fn range_of_prefix(prefix: Prefix) -> Option<Range>
-    requires { prefix.address + prefix_size prefix.length ≤ 2 ^ 32 }
-    ensures { result ≡ prefix_range prefix }
-{
-    let last = u64::from(prefix.address) + (prefix.size() - 1);
-    between(prefix.address, last as u32)
-}
-
-// Returns the range between two addresses.
-#[tactic(auto, unfolding(crate::specs::Address::range_of_parts))]
-fn range_between(first: &[u8], last: &[u8]) -> Option<Range>
-    ensures { result ≡ range_of_parts (first.now, last.now) }
-{
-    let first = address_of(without_last_spaces(first))?;
-    let last = address_of(without_first_spaces(last))?;
-    between(first, last)
-}
-
-// Reads the addresses of a pool from its text.
-#[tactic(auto, unfolding(crate::specs::Address::range_spelled))]
-pub(crate) fn range_of(text: &[u8]) -> Option<Range>
-    ensures { result ≡ range_spelled text.now }
-{
-    match cut_at(b'-', text) {
-        Some((first, last)) => range_between(first, last),
-        None => range_of_prefix(prefix_of(text)?),
     }
 }

@@ -1,17 +1,4 @@
-ghost use Rattle.std.specs.Prelude.{◌≡◌};
-ghost use Rattle.serde_json.specs.View.{view};
-ghost use Rattle.kd_config.specs.Gives.{Means};
-ghost use Rattle.kd_config.specs.Reservation.{has_reservation_keys, identity_given, one_identity, reservation_of};
-ghost use Rattle.kd_config.specs.Steps.{must};
-ghost use Rattle.kd_config.specs.declared.objects.faults.SettingsFault.TheVariants.{Memory};
-
-use crate::objects::faults::SettingsFault;
-use crate::objects::lists::Entry;
-use crate::objects::values::{address_in, bytes_or_none, check_keys};
-use crate::rules::place::{Place, bad_value, missing};
 use kd_wire::Bytes;
-use serde_json::Value;
-use std::alloc::Global;
 
 /// The client that a reservation is for.
 #[derive(Drop)]
@@ -29,54 +16,4 @@ pub struct Reservation {
     pub identity: Identity,
     /// The address, in host order.
     pub address: u32,
-}
-
-impl Entry for Reservation {
-    ghost means = { reservation_of };
-
-    #[tactic(auto, unfolding(crate::specs::Reservation::reservation_of))]
-    fn read(alloc: Global, value: &Value, at: &Place<'_>) -> Result<Reservation, SettingsFault> {
-        check_reservation(alloc, value, at)?;
-        let identity = identity_in(alloc, value, at)?;
-        match value.get("ip-address").and_then(address_in) {
-            Some(address) => Ok(Reservation { identity, address }),
-            None => Err(bad_value(alloc, at, "ip-address")),
-        }
-    }
-}
-
-// Checks that the value is an object with the keys of a reservation.
-#[tactic(auto, unfolding(crate::specs::Reservation::has_reservation_keys))]
-fn check_reservation(alloc: Global, value: &Value, at: &Place<'_>) -> Result<(), SettingsFault>
-    ensures { Means Memory result (must (has_reservation_keys (view value.now))) }
-{
-    let known = ["hw-address", "client-id", "ip-address"];
-    check_keys(alloc, value, at, &known, &["ip-address"])
-}
-
-// Reads the client of a reservation.
-#[tactic(auto, unfolding(crate::specs::Reservation::identity_given))]
-fn identity_in(alloc: Global, value: &Value, at: &Place<'_>) -> Result<Identity, SettingsFault>
-    ensures { Means Memory result (identity_given (view value.now)) }
-{
-    let hardware = bytes_or_none(alloc, value, at, "hw-address", 16)?;
-    let client = bytes_or_none(alloc, value, at, "client-id", 255)?;
-    identity_of(alloc, at, hardware, client)
-}
-
-// A reservation has one of the two identities, but not both.
-fn identity_of(
-    alloc: Global,
-    at: &Place<'_>,
-    hardware: Option<Bytes>,
-    client: Option<Bytes>,
-) -> Result<Identity, SettingsFault>
-    ensures { Means Memory result (one_identity hardware client) }
-{
-    match (hardware, client) {
-        (Some(hardware), None) => Ok(Identity::Hardware(hardware)),
-        (None, Some(client)) => Ok(Identity::ClientId(client)),
-        (None, None) => Err(missing(alloc, at, "hw-address")),
-        (Some(_), Some(_)) => Err(bad_value(alloc, at, "client-id")),
-    }
 }

@@ -1,4 +1,4 @@
-use Rattle.std.proofs.Common.{◌≡◌, ◌+◌, ◌++◌, ◌∷◌, [], refl, ap, sym, ◌∙◌, subst, take, nat_eq, arith}
+use Rattle.std.proofs.Common.{◌≡◌, ◌+◌, ◌++◌, ◌∷◌, [], refl, ap, sym, ◌∙◌, subst, take}
 use Rattle.std.proofs.lemmas.List.{take_all, take_more}
 use Rattle.indexmap.specs.IndexSet.{keys}
 use Rattle.kd_config.specs.Reservation.{HasAddresses}

@@ -1,11 +1,11 @@
 use Rattle.kd_config.specs.declared.reservation.Reservation.{Reservation}
-use Rattle.std.proofs.Common.{◌≡◌, Bool, ◌+◌, ◌++◌, ◌∷◌, [], ◌∙◌, ℕ, ap, sym, subst, refl, Some, None, if◌then◌else◌, take, length, arith}
+use Rattle.std.proofs.Common.{◌≡◌, Bool, ◌+◌, ◌++◌, ◌∷◌, [], ◌∙◌, ap, sym, Some, None, if◌then◌else◌, take, length, arith}
 use Rattle.std.specs.List.{position_from}
 use Rattle.std.specs.Option.{option_or}
 use Rattle.std.specs.Str.{bytes_eq}
-use Rattle.std.proofs.lemmas.List.{length-take-le, take_all, take_more}
+use Rattle.std.proofs.lemmas.List.{length-take-le, take_more}
 use Rattle.indexmap.specs.IndexMap.{get_by}
-use Rattle.kd_config.specs.Reservation.{ArePlaces, is_client}
+use Rattle.kd_config.specs.Reservation.{is_client}
 use Rattle.kd_config.proofs.ClientPlaces.{first_more}
 use Rattle.kd_config.proofs.reservations.places_of.Goals as goal
 

@@ -1,0 +1,16 @@
+pub mod Blocks
+pub mod Keys
+pub mod Left
+pub mod Documents
+pub mod Clients
+pub mod Steps
+pub mod Alike
+pub mod Defined
+pub mod Programs
+pub mod Came
+pub mod Sounds
+pub mod SoundSettings
+pub mod Shared
+pub mod FirstFaults
+pub mod FirstSubnets
+pub mod WhichFault

@@ -1,0 +1,25 @@
+-- The text of a configuration: JSON in UTF-8, and the settings that it describes.
+use Rattle.std.specs.Prelude.{ℕ, if◌then◌else◌, List, Option, Some, None}
+use Rattle.std.specs.Str.{is_utf8}
+use Rattle.serde_json.specs.Data.{Data}
+use Rattle.serde_json.specs.Read as json
+use Rattle.kd_config.specs.Rules.{may_stand}
+use Rattle.kd_json.specs.Settings.{whole_settings}
+use Rattle.kd_wire.specs.Steps.{◌>>=◌}
+use Rattle.kd_json.specs.Steps.{must}
+use Rattle.kd_json.specs.declared.objects.settings.Settings.{Settings}
+
+-- the value that a text spells
+unfoldable pub value_spelled : List ℕ → Option Data
+value_spelled text = if is_utf8 text then json.read text else None
+
+-- the settings that a text describes
+unfoldable pub settings_spelled : List ℕ → Option Settings
+settings_spelled text = value_spelled text >>= whole_settings
+
+-- the same, if its subnets obey the rules together
+unfoldable pub accepted_settings : List ℕ → Option Settings
+accepted_settings text = do
+  settings ← settings_spelled text
+  _ ← must (may_stand settings.subnets)
+  Some settings

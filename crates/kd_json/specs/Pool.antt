@@ -1,0 +1,27 @@
+-- A pool of a subnet.
+use Rattle.std.specs.Prelude.{Bool, [], ◌∷◌, codes, Option, Some}
+use Rattle.serde_json.specs.Data.{Data}
+use Rattle.serde_json.specs.Find.{as_str, get}
+use Rattle.kd_json.specs.Address.{range_spelled}
+use Rattle.kd_json.specs.Options.{option_list_in}
+use Rattle.kd_wire.specs.Steps.{◌>>=◌}
+use Rattle.kd_json.specs.Steps.{must}
+use Rattle.kd_json.specs.Values.{has_keys}
+use Rattle.kd_config.specs.declared.pool.Pool.{Pool}
+use Rattle.kd_config.specs.declared.range.Range.{Range}
+
+-- a value is an object with the keys of a pool
+unfoldable pub has_pool_keys : Data → Bool
+has_pool_keys d = has_keys (codes "pool" ∷ codes "option-data" ∷ []) (codes "pool" ∷ []) d
+
+-- the addresses of a pool
+unfoldable pub pool_range : Data → Option Range
+pool_range d = as_str d >>= range_spelled
+
+-- the pool that a value describes
+unfoldable pub pool_of : Data → Option Pool
+pool_of d = do
+  _ ← must (has_pool_keys d)
+  range ← get (codes "pool") d >>= pool_range
+  options ← option_list_in (get (codes "option-data") d)
+  Some (record { range = range; options = options })

@@ -1,0 +1,61 @@
+ghost use Rattle.std.specs.Prelude.{◌≡◌, ◌≢◌, IfErr, codes};
+ghost use Rattle.serde_json.specs.View.{view};
+ghost use Rattle.kd_json.specs.Document.{accepted_settings, value_spelled, settings_spelled};
+ghost use Rattle.kd_json.specs.FirstFault.{SubnetsFail, IsFaultOfText};
+ghost use Rattle.kd_json.specs.Gives.{Means, GivesAs};
+ghost use Rattle.kd_config.specs.Rules.{may_stand};
+ghost use Rattle.kd_json.specs.Steps.{must};
+ghost use Rattle.kd_json.specs.declared.fault.ConfigFault.TheVariants as faults;
+ghost use Rattle.kd_json.specs.declared.objects.faults.SettingsFault.TheVariants.{Memory};
+
+use crate::fault::ConfigFault;
+use crate::objects::faults::SettingsFault;
+use crate::objects::settings::{Settings, root_of};
+use crate::rules::place::Place;
+use crate::rules::subnets::check_rules;
+use serde_json::Value;
+use std::alloc::Global;
+
+// Reads the settings that a text describes, if its subnets obey the rules together.
+#[tactic(auto, unfolding(crate::specs::Document::accepted_settings))]
+pub(crate) fn settings_in(alloc: Global, text: &[u8]) -> Result<Settings, ConfigFault>
+    ensures meant { Means faults.Memory result (accepted_settings text.now) }
+    ensures first { IfErr result (λ fault. IsFaultOfText text.now fault) }
+{
+    let settings = written_settings(alloc, text)?;
+    check_subnets(alloc, &settings)?;
+    Ok(settings)
+}
+
+// Checks that the subnets obey the rules together.
+fn check_subnets(alloc: Global, settings: &Settings) -> Result<(), ConfigFault>
+    ensures checked { Means faults.Memory result (must (may_stand settings.now.subnets)) }
+    ensures first { IfErr result (λ fault. fault ≢ faults.Memory
+        → SubnetsFail may_stand (codes "/Dhcp4/subnet4") settings.now.subnets fault) }
+{
+    let root = Place::Root;
+    let dhcp4 = Place::Key(&root, "Dhcp4");
+    let subnets = Place::Key(&dhcp4, "subnet4");
+    check_rules(alloc, settings.subnets.as_slice(), &subnets)
+}
+
+// Reads the settings that a text describes.
+#[tactic(auto, unfolding(crate::specs::Document::settings_spelled))]
+fn written_settings(alloc: Global, text: &[u8]) -> Result<Settings, SettingsFault>
+    ensures { Means Memory result (settings_spelled text.now) }
+{
+    let value = value_of(alloc, text)?;
+    root_of(alloc, &value)
+}
+
+// Parses the JSON value of a text.
+#[tactic(auto, using(crate::proofs::Documents::spelled, crate::proofs::Documents::not_spelled))]
+fn value_of(alloc: Global, text: &[u8]) -> Result<Value, SettingsFault>
+    ensures { GivesAs Memory view result (value_spelled text.now) }
+{
+    match Value::from_slice(alloc, text) {
+        Ok(value) => Ok(value),
+        Err(error) if error.is_memory() => Err(SettingsFault::Memory),
+        Err(_) => Err(SettingsFault::Json),
+    }
+}

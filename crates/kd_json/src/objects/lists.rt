@@ -1,0 +1,75 @@
+ghost use Rattle.std.specs.Prelude.{◌≡◌, Option};
+ghost use Rattle.serde_json.specs.Data.{Data};
+ghost use Rattle.serde_json.specs.Find.{get};
+ghost use Rattle.serde_json.specs.View.{items_view, view};
+ghost use Rattle.kd_json.specs.Gives.{Means, GivesAs};
+ghost use Rattle.kd_json.specs.Lists.{all_of, items_or_none, list_of};
+ghost use Rattle.kd_json.specs.declared.objects.faults.SettingsFault.TheVariants.{Memory};
+
+use crate::objects::faults::SettingsFault;
+use crate::rules::place::{Place, bad_value};
+use kd_wire::Entries;
+use serde_json::Value;
+use std::alloc::Global;
+
+// Returns the values of a list at a key, at most `most` of them; none if the key is absent.
+#[tactic(auto, using(crate::proofs::Left::len_is))]
+pub(crate) fn list_at<'a>(
+    alloc: Global,
+    object: &'a Value,
+    at: &Place<'_>,
+    key: &'static str,
+    most: usize,
+) -> Result<&'a [Value], SettingsFault>
+    ensures { GivesAs Memory (λ values. items_view values.now) result
+        (items_or_none most (get key.now (view object.now))) }
+{
+    let Some(value) = object.get(key) else {
+        return Ok(&[]);
+    };
+    match value.as_array() {
+        Some(list) if list.len() <= most => Ok(list.as_slice()),
+        _ => Err(bad_value(alloc, at, key)),
+    }
+}
+
+// What is read from each value of a list on its own.
+pub(crate) trait Entry: Drop + Sized {
+    // What a value describes.
+    ghost means: { Data → Option Self };
+
+    // Reads the entry that a value describes.
+    fn read(alloc: Global, value: &Value, at: &Place<'_>) -> Result<Self, SettingsFault>
+        ensures { Means Memory result (means (view value.now)) };
+}
+
+// Reads the entries of a list at a key, at most `most` of them.
+#[tactic(auto, unfolding(crate::specs::Lists::list_of))]
+pub(crate) fn entries_of<T: Entry>(
+    alloc: Global,
+    object: &Value,
+    at: &Place<'_>,
+    key: &'static str,
+    most: usize,
+) -> Result<Entries<T>, SettingsFault>
+    ensures { Means Memory result (list_of most T.means (get key.now (view object.now))) }
+{
+    let values = list_at(alloc, object, at, key, most)?;
+    entries_in(alloc, values, &Place::Key(&*at, key))
+}
+
+// Reads the entries that values describe, in order.
+fn entries_in<T: Entry>(
+    alloc: Global,
+    values: &[Value],
+    at: &Place<'_>,
+) -> Result<Entries<T>, SettingsFault>
+    ensures { Means Memory result (all_of T.means (items_view values.now)) }
+{
+    let mut list = Vec::new(alloc);
+    for i in 0..values.len() {
+        let entry = T::read(alloc, &values[i], &Place::Item(&*at, i))?;
+        list.push(entry)?;
+    }
+    Ok(Entries::own(list))
+}

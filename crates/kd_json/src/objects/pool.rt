@@ -1,0 +1,46 @@
+ghost use Rattle.std.specs.Prelude.{◌≡◌};
+ghost use Rattle.serde_json.specs.View.{view};
+ghost use Rattle.kd_json.specs.Gives.{Means};
+ghost use Rattle.kd_json.specs.Pool.{has_pool_keys, pool_of, pool_range};
+ghost use Rattle.kd_json.specs.Steps.{must};
+ghost use Rattle.kd_json.specs.declared.objects.faults.SettingsFault.TheVariants.{Memory};
+
+use crate::objects::faults::SettingsFault;
+use crate::objects::lists::Entry;
+use crate::objects::options::options_of;
+use crate::objects::values::check_keys;
+use crate::rules::place::{Place, bad_value};
+use crate::text::range::range_of;
+use kd_config::{Pool, Range};
+use serde_json::Value;
+use std::alloc::Global;
+
+impl Entry for Pool {
+    ghost means = { pool_of };
+
+    #[tactic(auto, unfolding(crate::specs::Pool::pool_of))]
+    fn read(alloc: Global, value: &Value, at: &Place<'_>) -> Result<Pool, SettingsFault> {
+        check_pool(alloc, value, at)?;
+        let Some(range) = value.get("pool").and_then(range_in) else {
+            return Err(bad_value(alloc, at, "pool"));
+        };
+        let options = options_of(alloc, value, at)?;
+        Ok(Pool { range, options })
+    }
+}
+
+// Checks that the value is an object with the keys of a pool.
+#[tactic(auto, unfolding(crate::specs::Pool::has_pool_keys))]
+fn check_pool(alloc: Global, value: &Value, at: &Place<'_>) -> Result<(), SettingsFault>
+    ensures { Means Memory result (must (has_pool_keys (view value.now))) }
+{
+    check_keys(alloc, value, at, &["pool", "option-data"], &["pool"])
+}
+
+// Returns the addresses of a pool.
+#[tactic(auto, unfolding(crate::specs::Pool::pool_range))]
+fn range_in(value: &Value) -> Option<Range>
+    ensures { result ≡ pool_range (view value.now) }
+{
+    range_of(value.as_str()?.as_bytes())
+}

@@ -1,0 +1,80 @@
+ghost use Rattle.std.specs.Prelude.{◌≡◌};
+ghost use Rattle.serde_json.specs.View.{view};
+ghost use Rattle.kd_json.specs.Gives.{Means};
+ghost use Rattle.kd_json.specs.Steps.{must};
+ghost use Rattle.kd_json.specs.Subnet.{has_subnet_keys, subnet_of, subnet_prefix, subnet_with};
+ghost use Rattle.kd_json.specs.declared.objects.faults.SettingsFault.TheVariants.{Memory};
+
+use crate::objects::faults::SettingsFault;
+use crate::objects::lists::{Entry, entries_of};
+use crate::objects::options::options_of;
+use crate::objects::values::{check_keys, number_or, text_or_none};
+use crate::rules::place::{Place, bad_value};
+use crate::text::prefix::prefix_of;
+use kd_config::{Prefix, Reservations, Subnet};
+use kd_wire::Bytes;
+use serde_json::Value;
+use std::alloc::Global;
+
+impl Entry for Subnet {
+    ghost means = { subnet_of };
+
+    #[tactic(auto, unfolding(crate::specs::Subnet::subnet_of))]
+    fn read(alloc: Global, value: &Value, at: &Place<'_>) -> Result<Subnet, SettingsFault> {
+        check_subnet(alloc, value, at)?;
+        number_or(alloc, value, at, "id", 1, 4_294_967_294, 1)?;
+        let Some(prefix) = value.get("subnet").and_then(prefix_in) else {
+            return Err(bad_value(alloc, at, "subnet"));
+        };
+        let class = text_or_none(alloc, value, at, "client-class")?;
+        subnet_of_lists(alloc, value, at, prefix, class)
+    }
+}
+
+// Builds the subnet of a prefix and a class with the lists in a value.
+#[tactic(auto, unfolding(crate::specs::Subnet::subnet_with))]
+fn subnet_of_lists(
+    alloc: Global,
+    value: &Value,
+    at: &Place<'_>,
+    prefix: Prefix,
+    class: Option<Bytes>,
+) -> Result<Subnet, SettingsFault>
+    ensures { Means Memory result (subnet_with prefix class (view value.now)) }
+{
+    let pools = entries_of(alloc, value, at, "pools", 64)?;
+    let reservations = entries_of(alloc, value, at, "reservations", 4096)?;
+    let options = options_of(alloc, value, at)?;
+    let reservations = Reservations::own(alloc, reservations.into_vec())?;
+    Ok(Subnet {
+        prefix,
+        class,
+        pools,
+        reservations,
+        options,
+    })
+}
+
+// Checks that the value is an object with the keys of a subnet.
+#[tactic(auto, unfolding(crate::specs::Subnet::has_subnet_keys))]
+fn check_subnet(alloc: Global, value: &Value, at: &Place<'_>) -> Result<(), SettingsFault>
+    ensures { Means Memory result (must (has_subnet_keys (view value.now))) }
+{
+    let known = [
+        "id",
+        "subnet",
+        "client-class",
+        "pools",
+        "reservations",
+        "option-data",
+    ];
+    check_keys(alloc, value, at, &known, &["subnet"])
+}
+
+// Reads the prefix of a subnet.
+#[tactic(auto, unfolding(crate::specs::Subnet::subnet_prefix))]
+fn prefix_in(value: &Value) -> Option<Prefix>
+    ensures { result ≡ subnet_prefix (view value.now) }
+{
+    prefix_of(value.as_str()?.as_bytes())
+}

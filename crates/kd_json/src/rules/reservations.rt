@@ -1,0 +1,139 @@
+ghost use Rattle.std.specs.Prelude.{◌≡◌, ◌≢◌, ◌++◌, ◌∷◌, ◌&&◌, [], IfErr, IfOk, codes, if◌then◌else◌, map};
+ghost use Rattle.indexmap.specs.IndexSet.{keys};
+ghost use Rattle.kd_config.specs.Address.{has_address};
+ghost use Rattle.kd_json.specs.Faults.{config_fault_number, fault_path};
+ghost use Rattle.kd_json.specs.FirstFault.{ReservationFails, client_key, path_below, wrong_key};
+ghost use Rattle.kd_json.specs.Gives.{Means};
+ghost use Rattle.kd_json.specs.Parts.{client_by, path_at};
+ghost use Rattle.kd_config.specs.Rules.{is_new, may_all_reserve, may_reserve, reserved};
+ghost use Rattle.kd_json.specs.Steps.{must};
+ghost use Rattle.kd_json.specs.declared.fault.ConfigFault.TheVariants.{Memory};
+
+use crate::fault::ConfigFault;
+use crate::rules::place::{Place, outside, repeated_key};
+use indexmap::IndexSet;
+use kd_config::{Identity, Prefix, Reservation};
+use std::alloc::Global;
+
+// Checks that reservations have addresses in their subnet's prefix and that no address, and no
+// client of the subnet, is reserved twice; adds the addresses to the earlier ones.
+pub(crate) fn check_reservations(
+    alloc: Global,
+    prefix: Prefix,
+    reservations: &[Reservation],
+    at: &Place<'_>,
+    earlier: &mut IndexSet<u32>,
+) -> Result<(), ConfigFault>
+    ensures joined { IfOk result
+        (λ _. keys earlier.new ≡ keys earlier.old ++ reserved reservations.now) }
+    ensures checked { Means Memory result
+        (must (may_all_reserve prefix (keys earlier.old) [] reservations.now)) }
+    ensures first { IfErr result (λ fault. fault ≢ Memory
+        → ReservationFails (may_all_reserve prefix (keys earlier.old) []) (path_at at.now)
+        (keys earlier.old) prefix reservations.now fault) }
+{
+    let mut clients = IndexSet::new(alloc);
+    for i in 0..reservations.len() {
+        let place = Place::Item(&*at, i);
+        check_reservation(
+            alloc,
+            prefix,
+            &reservations[i],
+            &place,
+            earlier,
+            &mut clients,
+        )?;
+    }
+    Ok(())
+}
+
+// Checks that no earlier reservation has the address or the client of this one, and adds them to
+// the earlier ones.
+#[tactic(auto, using(crate::proofs::FirstFaults::is_inside))]
+fn check_reservation<'a>(
+    alloc: Global,
+    prefix: Prefix,
+    reservation: &'a Reservation,
+    at: &Place<'_>,
+    earlier: &mut IndexSet<u32>,
+    clients: &mut IndexSet<(bool, &'a [u8])>,
+) -> Result<(), ConfigFault>
+    ensures reserved { IfOk result
+        (λ _. keys earlier.new ≡ keys earlier.old ++ reservation.now.address ∷ []) }
+    ensures known { IfOk result
+        (λ _. map client_by (keys clients.new) ≡ map client_by (keys clients.old)
+        ++ reservation.now.identity ∷ []) }
+    ensures checked { Means Memory result
+        (must (may_reserve prefix (keys earlier.old) reservation.now
+        && is_new (map client_by (keys clients.old)) reservation.now.identity)) }
+    ensures kind { IfErr result (λ fault. fault ≢ Memory → config_fault_number fault
+        ≡ (if has_address prefix reservation.now.address then 76 else 74)) }
+    ensures path { IfErr result (λ fault. fault ≢ Memory → fault_path fault
+        ≡ path_below (path_at at.now) (wrong_key prefix (keys earlier.old) reservation.now)) }
+{
+    check_address(alloc, prefix, reservation, at, earlier)?;
+    check_client(alloc, &reservation.identity, at, clients)
+}
+
+// Checks that a reservation has an address of the prefix that no earlier one has, and adds it to
+// the earlier ones.
+fn check_address(
+    alloc: Global,
+    prefix: Prefix,
+    reservation: &Reservation,
+    at: &Place<'_>,
+    earlier: &mut IndexSet<u32>,
+) -> Result<(), ConfigFault>
+    ensures joined { IfOk result
+        (λ _. keys earlier.new ≡ keys earlier.old ++ reservation.now.address ∷ []) }
+    ensures checked { Means Memory result
+        (must (may_reserve prefix (keys earlier.old) reservation.now)) }
+    ensures kind { IfErr result (λ fault. fault ≢ Memory → config_fault_number fault
+        ≡ (if has_address prefix reservation.now.address then 76 else 74)) }
+    ensures path { IfErr result (λ fault. fault ≢ Memory
+        → fault_path fault ≡ path_below (path_at at.now) (codes "ip-address")) }
+{
+    if !prefix.contains(reservation.address) {
+        return Err(outside(alloc, at, "ip-address"));
+    }
+    if earlier.insert(reservation.address)? {
+        Ok(())
+    } else {
+        Err(repeated_key(alloc, at, "ip-address"))
+    }
+}
+
+// Checks that no earlier reservation is for the client, and adds the client to the earlier ones.
+fn check_client<'a>(
+    alloc: Global,
+    identity: &'a Identity,
+    at: &Place<'_>,
+    earlier: &mut IndexSet<(bool, &'a [u8])>,
+) -> Result<(), ConfigFault>
+    ensures joined { IfOk result
+        (λ _. map client_by (keys earlier.new) ≡ map client_by (keys earlier.old) ++ identity.now
+        ∷ []) }
+    ensures checked { Means Memory result
+        (must (is_new (map client_by (keys earlier.old)) identity.now)) }
+    ensures kind { IfErr result (λ fault. fault ≢ Memory → config_fault_number fault ≡ 76) }
+    ensures path { IfErr result (λ fault. fault ≢ Memory
+        → fault_path fault ≡ path_below (path_at at.now) (client_key identity.now)) }
+{
+    if earlier.insert(key_of(identity))? {
+        return Ok(());
+    }
+    match identity {
+        Identity::Hardware(_) => Err(repeated_key(alloc, at, "hw-address")),
+        Identity::ClientId(_) => Err(repeated_key(alloc, at, "client-id")),
+    }
+}
+
+// Returns the bytes of a client, and whether they are a hardware address.
+fn key_of(identity: &Identity) -> (bool, &[u8])
+    ensures { client_by result ≡ identity.now }
+{
+    match identity {
+        Identity::Hardware(bytes) => (true, bytes.as_slice()),
+        Identity::ClientId(bytes) => (false, bytes.as_slice()),
+    }
+}

@@ -1,0 +1,85 @@
+ghost use Rattle.std.specs.Prelude.{◌≡◌, ◌≢◌, ◌-◌, ◌++◌, [], IfErr, IfOk, length};
+ghost use Rattle.indexmap.specs.IndexSet.{keys};
+ghost use Rattle.kd_json.specs.FirstFault.{SubnetFails, SubnetsFail};
+ghost use Rattle.kd_json.specs.Gives.{Means, GivesAs};
+ghost use Rattle.kd_json.specs.Parts.{obey_within, obeys_within, path_at};
+ghost use Rattle.kd_config.specs.Rules.{may_stand, reserved};
+ghost use Rattle.kd_json.specs.Steps.{must};
+ghost use Rattle.kd_json.specs.declared.fault.ConfigFault.TheVariants.{Memory};
+
+use crate::fault::ConfigFault;
+use crate::rules::place::Place;
+use crate::rules::pools::{all_ranges, check_pools, first_overlap};
+use crate::rules::reservations::check_reservations;
+use indexmap::IndexSet;
+use kd_config::Subnet;
+use std::alloc::Global;
+
+// Checks that the subnets obey the rules together.
+#[tactic(auto, unfolding(kd_config::specs::Rules::may_stand))]
+pub(crate) fn check_rules(
+    alloc: Global,
+    subnets: &[Subnet],
+    at: &Place<'_>,
+) -> Result<(), ConfigFault>
+    ensures checked { Means Memory result (must (may_stand subnets.now)) }
+    ensures first { IfErr result (λ fault. fault ≢ Memory
+        → SubnetsFail may_stand (path_at at.now) subnets.now fault) }
+{
+    let ranges = all_ranges(alloc, subnets)?;
+    let apart = first_overlap(alloc, &ranges)?;
+    check_each(alloc, subnets, apart, at)
+}
+
+// Checks that the subnets obey the rules in order, and have at most `apart` pools.
+fn check_each(
+    alloc: Global,
+    subnets: &[Subnet],
+    apart: usize,
+    at: &Place<'_>,
+) -> Result<(), ConfigFault>
+    ensures checked { Means Memory result (must (obey_within apart [] subnets.now)) }
+    ensures first { IfErr result (λ fault. fault ≢ Memory
+        → SubnetsFail (obey_within apart []) (path_at at.now) subnets.now fault) }
+{
+    let mut left = apart;
+    let mut earlier = IndexSet::new(alloc);
+    for i in 0..subnets.len() {
+        let place = Place::Item(&*at, i);
+        left = check_subnet(alloc, &subnets[i], left, &place, &mut earlier)?;
+    }
+    Ok(())
+}
+
+// Checks that a subnet obeys its rules and has at most `apart` pools. Returns how many pools may
+// still follow; the reserved addresses of the subnet are added to the earlier ones.
+#[tactic(auto, unfolding(kd_config::specs::Rules::obeys))]
+fn check_subnet(
+    alloc: Global,
+    subnet: &Subnet,
+    apart: usize,
+    at: &Place<'_>,
+    earlier: &mut IndexSet<u32>,
+) -> Result<usize, ConfigFault>
+    ensures left { IfOk result (λ left. left ≡ apart - length subnet.now.pools) }
+    ensures joined { IfOk result
+        (λ _. keys earlier.new ≡ keys earlier.old ++ reserved subnet.now.reservations) }
+    ensures checked { GivesAs Memory (λ _. tt) result
+        (must (obeys_within apart (keys earlier.old) subnet.now)) }
+    ensures first { IfErr result (λ fault. fault ≢ Memory
+        → SubnetFails (obeys_within apart (keys earlier.old)) (path_at at.now) (keys earlier.old)
+        subnet.now fault) }
+{
+    let pools = subnet.pools.as_slice();
+    check_pools(
+        alloc,
+        subnet.prefix,
+        pools,
+        apart,
+        &Place::Key(&*at, "pools"),
+    )?;
+    let reservations = Place::Key(&*at, "reservations");
+    let list = subnet.reservations.as_slice();
+    check_reservations(alloc, subnet.prefix, list, &reservations, earlier)?;
+    Ok(apart - pools.len())
+}
