@@ -6,3 +6,11 @@ pub struct Ports {
     /// The port on which clients receive: 68 unless set otherwise.
     pub client: u16,
 }
+
+impl Ports {
+    /// The ports of DHCP (RFC 2131 section 4.1).
+    pub const STANDARD: Ports = Ports {
+        server: 67,
+        client: 68,
+    };
+}

@@ -9,13 +9,6 @@ pub none_read : (a : Option (List ℕ)) → Consumes a a []
 none_read None = tt
 none_read (Some xs) = refl
 
--- some bytes, and then others
-pub more_read : (xs ys : List ℕ) (a b c : Option (List ℕ)) → Consumes a b xs → Consumes b c ys → Consumes a c (xs ++ ys)
-more_read xs ys None b c f g = tt
-more_read xs ys (Some all) (Some rest) (Some last) f g = f ∙ ap (λ it. xs ++ it) g ∙ sym (append_assoc xs ys last)
-more_read xs ys (Some all) (Some rest) None f g = absurd g
-more_read xs ys (Some all) None c f g = absurd f
-
 -- what was read up to the end is all
 pub all_read : (xs all : List ℕ) (a b : Option (List ℕ)) → Consumes a b xs → IsAtEnd b → a ≡ Some all → xs ≡ all
 all_read xs all a b f end is = go a b f end is where

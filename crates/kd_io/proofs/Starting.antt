@@ -1,7 +1,7 @@
 -- A configuration of a text that was read, with token files that were.
 use Rattle.std.proofs.Common.{◌≡◌, ℕ, ◌≤◌, Bool, true, List, length, Option, Some, None, is_some, IfSome, IfErr, IfOk, Result, Ok, Err, inl, sym}
 use Rattle.kd_config.specs.Configuration.{Configuration}
-use Rattle.kd_config.specs.declared.token_file.TokenFile.{TokenFile}
+use Rattle.kd_json.specs.declared.token_file.TokenFile.{TokenFile}
 use Rattle.kd_io.specs.Start.{AreOfFolder, IsNoStart, IsNoStartOfFiles, IsOfFiles, IsStart}
 use Rattle.kd_io.specs.declared.start.StartFault.{StartFault}
 use Rattle.kd_io.specs.declared.start.StartFault.TheVariants as starts

@@ -1,7 +1,7 @@
 -- The numbers of the faults of files and of starting.
 use Rattle.std.specs.Prelude.{ℕ}
 use Rattle.kd_io.specs.declared.files.InputFault.{InputFault}
-use Rattle.kd_config.specs.Faults.{config_fault_number}
+use Rattle.kd_json.specs.Faults.{config_fault_number}
 use Rattle.kd_keeps.specs.Fault.{store_fault_number}
 use Rattle.kd_io.specs.declared.files.InputFault.TheVariants as faults
 use Rattle.kd_io.specs.declared.look.LookFault.{LookFault}

@@ -1,10 +1,10 @@
 -- What a server starts with: the configuration of a text that was read, or the built-in one.
 use Rattle.std.specs.Prelude.{◌≡◌, ◌≢◌, ◌≤◌, ◌⊎◌, ℕ, Bool, false, true, List, [], length, Option, Some, None, is_some, IfSome}
 use Rattle.kd_config.specs.Configuration.{Configuration, builtin_config}
-use Rattle.kd_config.specs.Configured.{IsConfigured}
-use Rattle.kd_config.specs.declared.fault.ConfigFault.{ConfigFault}
-use Rattle.kd_config.specs.declared.fault.ConfigFault.TheVariants as configs
-use Rattle.kd_config.specs.declared.token_file.TokenFile.{TokenFile}
+use Rattle.kd_json.specs.Configured.{IsConfigured}
+use Rattle.kd_json.specs.declared.fault.ConfigFault.{ConfigFault}
+use Rattle.kd_json.specs.declared.fault.ConfigFault.TheVariants as configs
+use Rattle.kd_json.specs.declared.token_file.TokenFile.{TokenFile}
 use Rattle.kd_io.specs.declared.files.InputFault.TheVariants as inputs
 use Rattle.kd_io.specs.declared.start.StartFault.{StartFault}
 use Rattle.kd_io.specs.declared.start.StartFault.TheVariants as starts

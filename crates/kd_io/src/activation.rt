@@ -1,4 +1,4 @@
-use kd_replay::EndFailed;
+use kd_loops::EndFailed;
 use os::FromRawFd;
 use std::env::{VarError, var};
 use std::net::UdpSocket;

@@ -1,7 +1,7 @@
 ghost use Rattle.std.specs.Prelude.{◌≡◌, ◌≤◌, IfOk, IfSome, false, length};
 
 use crate::streams::Output;
-use kd_replay::EndFailed;
+use kd_loops::EndFailed;
 use memchr::memrchr;
 use std::fs::{File, Metadata, OpenOptions};
 use std::io::ErrorKind;

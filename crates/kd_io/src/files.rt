@@ -2,7 +2,7 @@ ghost use Rattle.std.specs.Prelude.{◌≡◌, ◌≤◌, IfOk, IfSome, length};
 ghost use Rattle.kd_io.specs.Faults.{input_fault_number};
 ghost use Rattle.kd_io.specs.declared.files.InputFault.TheVariants.{Memory};
 
-use kd_config::TokenFile;
+use kd_json::TokenFile;
 use kd_wire::Bytes;
 use std::alloc::{AllocError, AllocFailed, Global};
 use std::fs::File;

@@ -3,7 +3,7 @@ ghost use Rattle.std.specs.Time.{system_time_nanos};
 ghost use Rattle.kd_io.specs.Sending.{GoesTo, HasAddressAndPort, address_for};
 
 use kd_event::{Destination, Mode};
-use kd_replay::{EndFailed, Link};
+use kd_loops::{EndFailed, Link};
 use std::net::{IpAddr, Ipv4Addr, SocketAddr, UdpSocket};
 use std::rt::Clock;
 use std::time::{SystemTime, UNIX_EPOCH};
@@ -171,7 +171,7 @@ impl Link for Socket<'_> {
 
     ghost has_failed = { λ s. s.failed };
 
-    #[tactic(auto, using(kd_replay::proofs::Coming::came_unknown))]
+    #[tactic(auto, using(kd_loops::proofs::Coming::came_unknown))]
     fn receive(&mut self, buf: &mut [u8]) -> Result<usize, EndFailed> {
         match self.next(buf, true) {
             Some(len) => Ok(len),
@@ -182,7 +182,7 @@ impl Link for Socket<'_> {
         }
     }
 
-    #[tactic(auto, using(kd_replay::proofs::Coming::came_unknown))]
+    #[tactic(auto, using(kd_loops::proofs::Coming::came_unknown))]
     fn receive_waiting(&mut self, buf: &mut [u8]) -> Option<usize> {
         self.next(buf, false)
     }

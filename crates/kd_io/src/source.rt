@@ -3,7 +3,7 @@ ghost use Rattle.kd_io.specs.Taking.{GrowsByPart};
 ghost use Rattle.kd_io.specs.declared.files.InputFault.TheVariants.{Read as Unread};
 
 use crate::files::InputFault;
-use kd_replay::Source;
+use kd_loops::Source;
 use std::alloc::Global;
 
 // How many bytes are read at a time.

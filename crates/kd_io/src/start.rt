@@ -4,7 +4,8 @@ ghost use Rattle.kd_io.specs.Faults.{start_fault_number};
 ghost use Rattle.kd_io.specs.Start.{AreOfFolder, IsNoStart, IsNoStartOfFiles, IsOfFiles, IsStart};
 
 use crate::files::{InputFault, MOST_BYTES, read_file, token_files};
-use kd_config::{Config, ConfigFault, TokenFile};
+use kd_config::Config;
+use kd_json::{ConfigFault, TokenFile, read_config};
 use std::alloc::{AllocError, Global};
 use std::fmt;
 use std::rt::Files;
@@ -88,7 +89,7 @@ pub fn config_of(
     ensures refused { IfErr result (IsNoStart (option_copied text.entry) tokens.now) }
 {
     match text {
-        Some(text) => Ok(Config::read(alloc, text, tokens)?),
+        Some(text) => Ok(read_config(alloc, text, tokens)?),
         None => Ok(Config::builtin(alloc)?),
     }
 }

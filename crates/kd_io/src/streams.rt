@@ -1,4 +1,4 @@
-use kd_replay::{EndFailed, Sink, Source};
+use kd_loops::{EndFailed, Sink, Source};
 use std::io::{Read, Write};
 
 /// A reader as the source of a replay.

@@ -6,7 +6,8 @@ use crate::link::place_at;
 use crate::start::StartFault;
 use kd_check::config_report;
 use kd_check::findings::{FileTrouble, SocketTrouble, StoreTrouble};
-use kd_config::ConfigFault;
+use kd_event::Ports;
+use kd_json::ConfigFault;
 use kd_names::signs_of;
 use libc::PATH_MAX;
 use os::RangeLock;
@@ -20,9 +21,6 @@ use std::{fs, io};
 
 // 255.255.255.255.
 const ALL_HOSTS: u32 = 0xffff_ffff;
-
-// The port of clients (RFC 2131 section 4.1).
-const CLIENT_PORT: u16 = 68;
 
 // The bytes of a database that a process that opens it locks, as SQLite does: the first, and how
 // many.
@@ -323,7 +321,9 @@ pub fn try_socket(rt: &HostRuntime, address: u32, port: u16) -> Result<bool, Soc
 // Reports whether a socket has a route to all hosts of its link.
 fn reaches_all(socket: &UdpSocket) -> bool {
     match socket.set_broadcast(true) {
-        Ok(()) => socket.connect(place_at(ALL_HOSTS, CLIENT_PORT)).is_ok(),
+        Ok(()) => socket
+            .connect(place_at(ALL_HOSTS, Ports::STANDARD.client))
+            .is_ok(),
         Err(_) => false,
     }
 }

@@ -83,7 +83,3 @@ module _ {V : Type 0} (items : V → List Row) (old new : State) (table : List R
   pub reading_finds : (r : Result V StoreFault) → ReadsTable items old new r → IfOk r (λ v. Rise (items v)) → IfOk r (λ v. items v ≡ table)
   reading_finds (Ok v) is rise = reads_table old new (items v) table h is rise
   reading_finds (Err e) is rise = tt
-
-pub reading_told : {V : Type 0} (items : V → List Row) (old new : State) (r : Result V StoreFault) → ReadsTable items old new r → IfErr r (AreUnread old new)
-reading_told items old new (Ok v) is = tt
-reading_told items old new (Err e) is = is

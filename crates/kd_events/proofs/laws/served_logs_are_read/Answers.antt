@@ -1,5 +1,0 @@
-use Rattle.kd_events.proofs.Logs.{served_logs_are_read}
-use Rattle.kd_events.proofs.laws.served_logs_are_read.Goals as goal
-
-pub returns : goal.returns
-returns c = served_logs_are_read

@@ -1,5 +1,0 @@
-pub mod Laws
-pub mod Logged
-pub mod Parts
-pub mod People
-pub mod Printed

@@ -1,5 +1,0 @@
-use Rattle.kd_import.proofs.Reread.{printed_is_read}
-use Rattle.kd_import.proofs.laws.printed_is_read.Goals as goal
-
-pub returns : goal.returns
-returns c = printed_is_read

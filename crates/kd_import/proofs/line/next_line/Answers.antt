@@ -1,7 +1,0 @@
-use Rattle.std.proofs.Common.{length}
-use Rattle.kd_replay.proofs.Looking.{is_some}
-use Rattle.kd_import.proofs.Lines.{cut_lines}
-use Rattle.kd_import.proofs.line.next_line.Goals as goal
-
-pub returns : goal.returns
-returns c = cut_lines c.cut.ensures (is_some (length c.args.text.now) c.if-is_empty.ensures)

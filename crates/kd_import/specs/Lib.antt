@@ -1,3 +1,0 @@
-pub mod Import
-pub mod Laws
-pub mod Parts

@@ -1,0 +1,10 @@
+pub mod Lines
+pub mod LeasePlain
+pub mod Printed
+pub mod Addressed
+pub mod Zipped
+pub mod Reading
+pub mod Reread
+pub mod LogPlain
+pub mod Written
+pub mod Logs

@@ -1,5 +1,0 @@
-use Rattle.std.proofs.Common.{rules, append_assoc}
-use Rattle.kd_print.proofs.token_file.accepted_text.Goals as goal
-
-pub returns : goal.returns
-returns c = let e = c.format.ensures.ok in simp append_assoc (search rules)

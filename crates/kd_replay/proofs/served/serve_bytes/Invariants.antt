@@ -1,4 +1,0 @@
-use Rattle.kd_replay.proofs.served.serve_bytes.Given as goal
-
-abbrev pub ghosts-serve_post : goal.ghosts-serve_post
-ghosts-serve_post g a = record { given = a.input.now }

@@ -1,8 +1,0 @@
-ghost use Rattle.kd_replay.specs.Laws.{BatchesReplay, RecordsReplay};
-
-/// The record that serving writes is an input of a replay, with exactly the events that were
-/// served.
-pub fn records_replay()
-    ensures events { RecordsReplay }
-    ensures batches { BatchesReplay }
-{}
