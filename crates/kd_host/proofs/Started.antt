@@ -1,5 +1,5 @@
 -- A command over files, by what the machine says of its answers.
-use Rattle.std.proofs.Common.{◌≡◌, ◌⊎◌, inl, inr, ℕ, Bool, true, false, List, Option, None, Some, Result, Ok, Err, IfOk, IfErr, MatchResult, is_some, option_map, string_bytes, refl, subst, sym}
+use Rattle.std.proofs.Common.{◌≡◌, ◌⊎◌, ◌∙◌, ap, inl, inr, ℕ, Bool, true, false, List, Option, None, Some, Result, Ok, Err, IfOk, IfErr, MatchResult, is_some, option_map, string_bytes, refl, subst, sym}
 use Rattle.sqlite_disk.specs.declared.Disk.{Ghosts as Disks}
 use Rattle.sqlite_store.specs.FileStore.{view}
 use Rattle.sqlite_store.specs.declared.store.FileStore.{FileStore}
@@ -9,20 +9,20 @@ use Rattle.kd_commands.specs.declared.orders.Order.{Order}
 use Rattle.kd_config.specs.Configuration.{Configuration}
 use Rattle.kd_database.specs.Stops.{LiesBelow}
 use Rattle.kd_database.specs.Stores.{IsStoreIn, StandsAsHeld, StandsNew}
-use Rattle.kd_host.specs.OnFiles.{GivesNoStore, Left, ReadsNone, RunsOnFiles, ServesFiles, TellsRefusal, order_of}
+use Rattle.kd_host.specs.OnFiles.{GivesNoStore, Left, ReadsNone, RunsOnFiles, ServesFiles, TellsRefusal}
 use Rattle.kd_io.specs.Start.{IsNoStartOfFiles, IsOfFiles}
 use Rattle.kd_io.specs.declared.start.StartFault.{StartFault}
 use Rattle.kd_keeps.specs.declared.fault.StoreFault.{StoreFault}
 use Rattle.kd_keeps.specs.declared.keeps.Keeps.{Ghosts}
-use Rattle.kd_program.specs.Running.{Carries, CarriesOut, HasConfiguration, IsStoreFor, IsStoreFound, ServesWork, Starts, WorksOver}
-use Rattle.kd_program.specs.Streams.{At, Streams}
+use Rattle.kd_program.specs.Running.{Carries, CarriesOut, IsStoreFor, IsStoreFound, ServesWork, Starts, WorksBy, WorksOver, live_view}
+use Rattle.kd_program.specs.Streams.{At}
 use Rattle.kd_program.specs.declared.host.Host.{Ghosts as Hosts}
-use Rattle.kd_program.specs.declared.listing.View.TheVariants as views
 use Rattle.kd_commands.specs.declared.orders.Files.{Files}
-use Rattle.kd_program.specs.declared.serving.Work.{Work}
-use Rattle.kd_program.specs.declared.serving.Work.TheVariants as works
-use Rattle.kd_replay.specs.declared.ends.Sink.{Ghosts as Sinks}
-use Rattle.kd_replay.specs.declared.link.Link.{Ghosts as Links}
+use Rattle.kd_commands.specs.declared.orders.View.{View}
+use Rattle.kd_commands.specs.declared.orders.Work.{Work}
+use Rattle.kd_commands.specs.declared.orders.Work.TheVariants as works
+use Rattle.kd_loops.specs.declared.ends.Sink.{Ghosts as Sinks}
+use Rattle.kd_loops.specs.declared.link.Link.{Ghosts as Links}
 use Rattle.kd_store.specs.Kept.{Kept}
 
 some_mapped : {X Y : Type 0} (f : X → Y) (o : Option X) → is_some (option_map f o) ≡ is_some o
@@ -61,68 +61,77 @@ module _ {D H U L R : Type 0} (d : Disks D) (h : Hosts H (Kept (FileStore D d)) 
   Ends files work path before after status =
       ServesFiles d h k l r image files work before.streams (left_at after) status ⊎ (Told files before after status ⊎ ReadsNone d h k l r work path)
 
-  worked : Says → (files : Files) (work : Work) (path : List ℕ) (before after : At H) (status : ℕ) → option_map string_bytes files.store ≡ Some path
-      → (c : HasConfiguration h k unnamed l r files work before after status) → WorksOver h k unnamed l r (Some path) work c.config (record before { host = c.asked }) after status
+  -- work is done over the store at the path
+  worked : Says → (files : Files) (work : Work) (path : List ℕ) (config : Configuration) → IsOfFiles (is_some files.config) (is_some files.token_dir) config
+      → option_map string_bytes files.store ≡ Some path → (before after : At H) (status : ℕ) → WorksOver h k unnamed l r (Some path) work config before after status
       → Ends files work path before after status
-  worked says files work path before after status named c (inl w) =
-      let opened = says.opens c.asked path w.store w.opened w.given in
+  worked says files work path config of named before after status (inl (store, opened, given, w)) =
+      let held = says.opens before.host path store opened given in
       let closed = says.closes w.left path w.back after.host w.closed in
       inl (record {
-        config = c.config;
-        of_files = of_named (λ file folder. IsOfFiles file folder c.config) files (says.configures before.host _ _ c.config c.asked c.given);
-        store = w.store;
-        held = opened.0;
-        new = opened.1;
-        is_in = opened.2;
+        config = config;
+        of_files = of;
+        store = store;
+        held = held.0;
+        new = held.1;
+        is_in = held.2;
         back = w.back;
-        before = w.opened;
+        before = opened;
         after = w.left;
         serves = subst
-            (λ store. ServesWork h l r k store work c.config (record { held = w.store; at = record { host = w.opened; streams = before.streams } })
+            (λ at. ServesWork h l r k at work config (record { held = store; at = record { host = opened; streams = before.streams } })
             (record { held = w.back; at = record { host = w.left; streams = after.streams } }) status)
             (sym named) w.serves;
         it = closed.0;
         below_is = closed.1;
         leaves = closed.2;
       })
-  worked says files work path before after status named c (inr none) = inr (inl (inr (none.fault, says.refuses _ path none.fault _ none.given, none.told)))
+  worked says files work path config of named before after status (inr (fault, given, told)) = inr (inl (inr (fault, says.refuses _ path fault _ given, told)))
 
-  -- work is done over the store at the path, once it is known to be that one
-  at_path : Says → (files : Files) (work : Work) (path : List ℕ) (before after : At H) (status : ℕ) → option_map string_bytes files.store ≡ Some path → (c : HasConfiguration h k unnamed l r files work before after status)
-      → c.store ≡ Some path → Ends files work path before after status
-  at_path says files work path before after status named c is =
-      worked says files work path before after status named c
-      (subst (λ o. WorksOver h k unnamed l r o work c.config (record before { host = c.asked }) after status) is c.works)
+  -- the same, once the store is known to be that one
+  at_path : Says → (files : Files) (work : Work) (path : List ℕ) (config : Configuration) → IsOfFiles (is_some files.config) (is_some files.token_dir) config
+      → option_map string_bytes files.store ≡ Some path → (before after : At H) (status : ℕ) (store : Option (List ℕ)) → store ≡ Some path
+      → WorksOver h k unnamed l r store work config before after status → Ends files work path before after status
+  at_path says files work path config of named before after status store is w =
+      worked says files work path config of named before after status (subst (λ o. WorksOver h k unnamed l r o work config before after status) is w)
 
   -- the same, where a trial of the path chose the store
-  tried : Says → (files : Files) (work : Work) (path : List ℕ) (before after : At H) (status : ℕ) → option_map string_bytes files.store ≡ Some path → (c : HasConfiguration h k unnamed l r files work before after status)
-      → ((host : H) → h.tries host path (Ok false) → ReadsNone d h k l r work path)
-      → IsStoreFound h path c.asked c.store → Ends files work path before after status
-  tried says files work path before after status named c reads (Ok true, found, is) = at_path says files work path before after status named c is
-  tried says files work path before after status named c reads (Ok false, found, is) = inr (inr (reads c.asked found))
-  tried says files work path before after status named c reads (Err trouble, found, is) = at_path says files work path before after status named c is
+  tried : Says → (files : Files) (work : Work) (path : List ℕ) (config : Configuration) → IsOfFiles (is_some files.config) (is_some files.token_dir) config
+      → option_map string_bytes files.store ≡ Some path → (before after : At H) (status : ℕ) (store : Option (List ℕ))
+      → (h.tries before.host path (Ok false) → ReadsNone d h k l r work path) → IsStoreFound h path before.host store
+      → WorksOver h k unnamed l r store work config before after status → Ends files work path before after status
+  tried says files work path config of named before after status store reads (Ok true, found, is) w = at_path says files work path config of named before after status store is w
+  tried says files work path config of named before after status store reads (Ok false, found, is) w = inr (inr (reads found))
+  tried says files work path config of named before after status store reads (Err trouble, found, is) w = at_path says files work path config of named before after status store is w
 
-  chosen : Says → (files : Files) (work : Work) (path : List ℕ) (before after : At H) (status : ℕ) → option_map string_bytes files.store ≡ Some path → (c : HasConfiguration h k unnamed l r files work before after status)
-      → IsStoreFor h (Some path) work c.asked c.store → Ends files work path before after status
-  chosen says files works.Replay path before after status named c is = at_path says files works.Replay path before after status named c is
-  chosen says files (works.Explain number) path before after status named c is = tried says files (works.Explain number) path before after status named c (λ host found. (host, found)) is
-  chosen says files (works.Show view) path before after status named c is = tried says files (works.Show view) path before after status named c (λ host found. (host, found)) is
-  chosen says files (works.Serve service) path before after status named c is = at_path says files (works.Serve service) path before after status named c is
+  -- the same over the store for this work, which a trial of the path may have chosen
+  chosen : Says → (files : Files) (work : Work) (path : List ℕ) (config : Configuration) → IsOfFiles (is_some files.config) (is_some files.token_dir) config
+      → option_map string_bytes files.store ≡ Some path → (before after : At H) (status : ℕ) (store : Option (List ℕ)) → IsStoreFor h (Some path) work before.host store
+      → WorksOver h k unnamed l r store work config before after status → Ends files work path before after status
+  chosen says files works.Replay path config of named before after status store is w =
+      at_path says files works.Replay path config of named before after status store is w
+  chosen says files (works.Explain number) path config of named before after status store is w =
+      tried says files (works.Explain number) path config of named before after status store (λ found. (before.host, found)) is w
+  chosen says files (works.Show view at live) path config of named before after status store is w =
+      tried says files (works.Show view at live) path config of named before after status store (λ found. (before.host, found)) is w
+  chosen says files (works.Serve service) path config of named before after status store is w =
+      at_path says files (works.Serve service) path config of named before after status store is w
+
+  -- work that is no live view is done as a server
+  as_server : Says → (files : Files) (work : Work) (path : List ℕ) (config : Configuration) → IsOfFiles (is_some files.config) (is_some files.token_dir) config
+      → option_map string_bytes files.store ≡ Some path → (before after : At H) (status : ℕ) (live : Option (List ℕ × View × ℕ)) → live ≡ None
+      → WorksBy h k unnamed l r live (option_map string_bytes files.store) work config before after status → Ends files work path before after status
+  as_server says files work path config of named before after status None is w =
+      chosen says files work path config of named before after status w.store (subst (λ o. IsStoreFor h o work before.host w.store) named w.is_for) w.works
+  as_server says files work path config of named before after status (Some live) is w = cc
 
   started : Says → (files : Files) (work : Work) (path : List ℕ) (before after : At H) (status : ℕ) → option_map string_bytes files.store ≡ Some path
-      → Starts h k unnamed l r files work before after status → Ends files work path before after status
-  started says files work path before after status named (inl c) =
-      chosen says files work path before after status named c (subst (λ o. IsStoreFor h o work c.asked c.store) named c.is_for)
-  started says files work path before after status named (inr none) =
-      inr (inl (inl (none.fault, of_named (λ file folder. IsNoStartOfFiles file folder none.fault) files (says.refuses_files _ _ _ none.fault _ none.given), none.told)))
-
-  ordered : Says → (files : Files) (work : Work) (path : List ℕ) (before after : At H) (status : ℕ) → option_map string_bytes files.store ≡ Some path
-      → CarriesOut h k unnamed l r (order_of files work) before after status → Ends files work path before after status
-  ordered says files works.Replay path before after status named c = started says files works.Replay path before after status named c
-  ordered says files (works.Explain number) path before after status named c = started says files (works.Explain number) path before after status named c
-  ordered says files (works.Show (views.Listing listing at)) path before after status named c = started says files (works.Show (views.Listing listing at)) path before after status named c
-  ordered says files (works.Show (views.Why word at)) path before after status named c = started says files (works.Show (views.Why word at)) path before after status named c
-  ordered says files (works.Serve service) path before after status named c = started says files (works.Serve service) path before after status named c
+      → live_view (Some path) work ≡ None → Starts h k unnamed l r files work before after status → Ends files work path before after status
+  started says files work path before after status named idle (inl (config, asked, given, w)) =
+      as_server says files work path config (of_named (λ file folder. IsOfFiles file folder config) files (says.configures before.host _ _ config asked given)) named
+      (record before { host = asked }) after status w.live (w.is_live ∙ ap (λ o. live_view o work) named ∙ idle) w.works
+  started says files work path before after status named idle (inr (fault, given, told)) =
+      inr (inl (inl (fault, of_named (λ file folder. IsNoStartOfFiles file folder fault) files (says.refuses_files _ _ _ fault _ given), told)))
 
   pub on_files : Says → (words : List (List ℕ)) (before after : At H) (status : ℕ) → Carries h k unnamed l r words before after status
       → RunsOnFiles d h k l r image words before.streams (left_at after) status
@@ -132,7 +141,7 @@ module _ {D H U L R : Type 0} (d : Disks D) (h : Hosts H (Kept (FileStore D d)) 
         inr (
           c.0,
           c.1,
-          λ files work path is named. ordered says files work path before after status named (subst (λ (order : Order). CarriesOut h k unnamed l r order before after status) is c.2),
+          λ files work path is named idle. started says files work path before after status named idle (subst (λ (order : Order). CarriesOut h k unnamed l r order before after status) is c.2),
         );
   }
 

@@ -7,9 +7,12 @@ use Rattle.sqlite_trees.specs.View.{IsClean}
 use Rattle.sqlite_wal.specs.Recovery.{Image}
 use Rattle.kd_commands.specs.Order.{AsksFor, HasFault, line_fault_number}
 use Rattle.kd_commands.specs.declared.fault.LineFault.{LineFault}
+use Rattle.kd_commands.specs.declared.orders.Files.{Files}
 use Rattle.kd_commands.specs.declared.orders.Listening.{Listening}
 use Rattle.kd_commands.specs.declared.orders.Order.{Order}
 use Rattle.kd_commands.specs.declared.orders.Order.TheVariants as orders
+use Rattle.kd_commands.specs.declared.orders.Work.{Work}
+use Rattle.kd_commands.specs.declared.orders.Work.TheVariants as works
 use Rattle.kd_config.specs.Configuration.{Configuration}
 use Rattle.kd_database.specs.Image.{AreRowsIn, LacksTable, bytes_image}
 use Rattle.kd_database.specs.Stops.{LiesBelow}
@@ -26,18 +29,14 @@ use Rattle.kd_keeps.specs.declared.fault.Cause.TheVariants.{Closed}
 use Rattle.kd_keeps.specs.declared.fault.StoreFault.{StoreFault}
 use Rattle.kd_keeps.specs.declared.fault.StoreFault.TheVariants.{Sql}
 use Rattle.kd_keeps.specs.declared.keeps.Keeps.{Ghosts}
-use Rattle.kd_program.specs.Running.{ServesWork}
+use Rattle.kd_program.specs.Running.{ServesWork, live_view}
 use Rattle.kd_program.specs.Streams.{Stream, Streams, Tells, TellsWith}
 use Rattle.kd_program.specs.declared.host.Host.{Ghosts as Hosts}
-use Rattle.kd_program.specs.declared.listing.View.TheVariants as views
-use Rattle.kd_commands.specs.declared.orders.Files.{Files}
-use Rattle.kd_program.specs.declared.serving.Work.{Work}
-use Rattle.kd_program.specs.declared.serving.Work.TheVariants as works
-use Rattle.kd_replay.specs.declared.ends.Sink.{Ghosts as Sinks}
-use Rattle.kd_replay.specs.declared.link.Link.{Ghosts as Links}
+use Rattle.kd_loops.specs.declared.ends.Sink.{Ghosts as Sinks}
+use Rattle.kd_loops.specs.declared.link.Link.{Ghosts as Links}
 use Rattle.kd_rows.specs.declared.row.Row.{Row}
 use Rattle.kd_store.specs.Kept.{Kept}
-use Rattle.kd_print.specs.Status.{status_of}
+use Rattle.kd_answers.specs.Status.{status_of}
 
 -- how a socket sends: each reply to its sender, or those to all hosts to another address
 abbrev pub sending_of : Listening → Sending
@@ -61,15 +60,6 @@ abbrev pub GivesNoRows : {D : Type 0} → Disks D → LookFault → Type 0
 GivesNoRows d looks.NoTable = (log db : List ℕ) × LacksTable (bytes_image log db)
 GivesNoRows d (looks.Store fault) = (log db : List ℕ) × IsNoStoreIn d (bytes_image log db) fault
 GivesNoRows d fault = IsCopyFault fault
-
--- the order for work over files
-abbrev pub order_of : Files → Work → Order
-order_of files works.Replay = orders.Replay files None
-order_of files (works.Explain number) = orders.Replay files (Some number)
-order_of files (works.Show (views.Listing listing at)) = orders.List listing files at
-order_of files (works.Show (views.Why word at)) = orders.Why files false at word
-order_of files (works.Serve service) =
-    orders.Serve files service.listening service.count service.journal service.max_ahead
 
 -- why the files of a store that held these bytes are not opened: there is no store in them, or they
 -- were opened before
@@ -120,19 +110,19 @@ module _ {D H U L R : Type 0} (d : Disks D) (h : Hosts H (Kept (FileStore D d)) 
   abbrev pub ReadsNone : Work → List ℕ → Type 0
   ReadsNone works.Replay path = ⊥
   ReadsNone (works.Explain number) path = (host : H) × h.tries host path (Ok false)
-  ReadsNone (works.Show view) path = (host : H) × h.tries host path (Ok false)
+  ReadsNone (works.Show view at live) path = (host : H) × h.tries host path (Ok false)
   ReadsNone (works.Serve service) path = ⊥
 
   -- what arguments do: arguments that are not an order have a fault, which is reported; if they
-  -- name a store, a server works over its files, or it is reported why there is no configuration or
-  -- no store, or there are no files to read
+  -- name a store, and do not ask for a live view of it, a server works over its files, or it is
+  -- reported why there is no configuration or no store, or there are no files to read
   pub record RunsOnFiles (image : Image) (words : List (List ℕ)) (old : Streams)
       (left : Left (FileStore D d)) (status : ℕ) : Type 0 where
     pub comes_to : ((fault : LineFault) × HasFault words fault
         × Tells (line_fault_number fault) status old left.streams)
         ⊎ ((order : Order) × AsksFor words order
-        × ((files : Files) (work : Work) (path : List ℕ) → order ≡ order_of files work
-        → option_map string_bytes files.store ≡ Some path
+        × ((files : Files) (work : Work) (path : List ℕ) → order ≡ orders.Over files work
+        → option_map string_bytes files.store ≡ Some path → live_view (Some path) work ≡ None
         → ServesFiles image files work old left status
         ⊎ (TellsRefusal image files old left.streams status ⊎ ReadsNone work path)))
 

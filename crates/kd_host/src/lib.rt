@@ -9,9 +9,9 @@
 mod machine;
 mod running;
 
+pub use kd_answers::{Printed, answer};
 pub use kd_commands::{LineFault, Order, order};
 pub use kd_io::{Input, Output, inherited_socket};
-pub use kd_print::{Printed, answer};
 pub use kd_program::StandardEnds;
 pub use kd_server::{Lease, lease_lines};
 pub use machine::{Below, Machine};

@@ -7,8 +7,8 @@ use kd_io::{
     journal, seconds_of, start_words, try_database, try_socket,
 };
 use kd_keeps::{Cause, Opened, StoreFault, Volatile};
+use kd_loops::EndFailed;
 use kd_program::Host;
-use kd_replay::EndFailed;
 use kd_rows::Row;
 use kd_store::Store;
 use sqlite::{FileFrom, FileStore, Start};

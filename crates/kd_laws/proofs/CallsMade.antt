@@ -12,24 +12,24 @@ use Rattle.kd_keeps.specs.declared.keeps.Keeps.{Ghosts}
 use Rattle.kd_laws.specs.Calls.{AreCallsOfBatches, AreCallsOfLines, IsAfterBatches, IsReplayOf, IsTrafficOf, IsWritten, ReplayingIsCalls, ServingIsCalls}
 use Rattle.kd_laws.specs.Lives.{Call, Called}
 use Rattle.kd_laws.specs.Lives.Call.{one, batch}
-use Rattle.kd_replay.proofs.Growing.{grows_none, grows_trans}
-use Rattle.kd_replay.specs.Ahead.{clocks_asked}
-use Rattle.kd_replay.specs.Arriving.{event_of}
-use Rattle.kd_replay.specs.History as past
-use Rattle.kd_replay.specs.Lines.{lines_of}
-use Rattle.kd_replay.specs.Replay.{AreEvents, Ends, Replays}
-use Rattle.kd_replay.specs.Serving.{Answered, Batch, EndsServing, Follow, Passes, Timed, Traffic, events_in, gathering, handled_in, record_of, text_of, texts_of, trace_of}
-use Rattle.kd_replay.specs.Text.{line_of}
-use Rattle.kd_replay.specs.Trace.{Grows}
-use Rattle.kd_replay.specs.declared.fault.LoopFault.{LoopFault}
-use Rattle.kd_replay.specs.declared.fault.LoopFault.TheVariants as loops
-use Rattle.kd_replay.specs.declared.fault.ReplayFault.{ReplayFault}
-use Rattle.kd_replay.specs.declared.fault.ReplayFault.TheVariants as replaying
-use Rattle.kd_replay.specs.declared.fault.ServeFault.{ServeFault}
-use Rattle.kd_replay.specs.declared.fault.ServeFault.TheVariants as faults
-use Rattle.kd_replay.specs.declared.happening.Happening.{Happening}
+use Rattle.kd_loops.proofs.Growing.{grows_none, grows_trans}
+use Rattle.kd_loops.specs.Ahead.{clocks_asked}
+use Rattle.kd_loops.specs.Arriving.{event_of}
+use Rattle.kd_loops.specs.History as past
+use Rattle.kd_loops.specs.Lines.{lines_of}
+use Rattle.kd_loops.specs.Replay.{AreEvents, Ends, Replays}
+use Rattle.kd_loops.specs.Serving.{Answered, Batch, EndsServing, Follow, Passes, Timed, Traffic, events_in, gathering, handled_in, record_of, text_of, texts_of, trace_of}
+use Rattle.kd_loops.specs.Text.{line_of}
+use Rattle.kd_loops.specs.Trace.{Grows}
+use Rattle.kd_loops.specs.declared.fault.LoopFault.{LoopFault}
+use Rattle.kd_loops.specs.declared.fault.LoopFault.TheVariants as loops
+use Rattle.kd_loops.specs.declared.fault.ReplayFault.{ReplayFault}
+use Rattle.kd_loops.specs.declared.fault.ReplayFault.TheVariants as replaying
+use Rattle.kd_loops.specs.declared.fault.ServeFault.{ServeFault}
+use Rattle.kd_loops.specs.declared.fault.ServeFault.TheVariants as faults
+use Rattle.kd_loops.specs.declared.happening.Happening.{Happening}
 use Rattle.kd_server.specs.Batch.{Batched}
-use Rattle.kd_server.specs.Keeping.{Keeping, Refuses, Steps, latest_in}
+use Rattle.kd_server.specs.Server.{ServerState, Refuses, Steps, latest_in}
 
 -- traffic, and then more
 passes_then : (a b c : Traffic) (x y : List Happening) (p q s t : List ℕ) → Passes a b x p s → Passes b c y q t → Passes a c (x ++ y) (p ++ q) (s ++ t)
@@ -93,19 +93,19 @@ are_more (c ∷ d ∷ list) b left fault = (calls_of_all (d ∷ list) ++ batch (
 
 module _ {S : Type 0} (g : Ghosts S) where
   -- calls after calls
-  called_then : (first later : List Call) (old mid new : Keeping S) → Called g old first mid → Called g mid later new → Called g old (first ++ later) new
-  called_then [] later old mid new same c = subst (λ (s : Keeping S). Called g s later new) same c
+  called_then : (first later : List Call) (old mid new : ServerState S) → Called g old first mid → Called g mid later new → Called g old (first ++ later) new
+  called_then [] later old mid new same c = subst (λ (s : ServerState S). Called g s later new) same c
   called_then (call ∷ first) later old mid new f c = (f.0, f.1, called_then first later f.0 mid new f.2 c)
 
   -- batches that follow one another are calls
-  followed_calls : (limit : Option ℕ) (list : List Batch) (old mid : Timed (Keeping S)) → Follow limit latest_in (Batched g) old list mid
+  followed_calls : (limit : Option ℕ) (list : List Batch) (old mid : Timed (ServerState S)) → Follow limit latest_in (Batched g) old list mid
       → Called g old.server (calls_of_all list) mid.server
   unfolding calls_of_all call_of
   followed_calls limit [] old mid same = ap (λ s. s.server) same
   followed_calls limit (b ∷ list) old mid f = (f.1.0, f.1.1, followed_calls limit list (record { server = f.1.0; clocks = b.clocks }) mid f.1.2)
 
   -- serving ends without a further call: datagrams came that are not handled
-  record EndsBare (old new : Keeping S) (before after : Traffic) : Type 0 where
+  record EndsBare (old new : ServerState S) (before after : Traffic) : Type 0 where
     same : new ≡ old
     last : List Happening
     unhandled : List ℕ
@@ -113,7 +113,7 @@ module _ {S : Type 0} (g : Ghosts S) where
     passes : Passes before after last unhandled []
 
   -- serving ends with the call of one more batch
-  record EndsBatch (old new : Keeping S) (before after : Traffic) : Type 0 where
+  record EndsBatch (old new : ServerState S) (before after : Traffic) : Type 0 where
     last : Batch
     left : List Handled
     fault : Option ServeFault
@@ -123,7 +123,7 @@ module _ {S : Type 0} (g : Ghosts S) where
     passes : Passes before after (trace_of last) (record_of last) text
 
   -- a batch with a fault
-  failed_end : (fault : ServeFault) (old new : Keeping S) (before after : Traffic) (b : Batch) → Batched g old (events_in b) (handled_in b) (Some fault) new
+  failed_end : (fault : ServeFault) (old new : ServerState S) (before after : Traffic) (b : Batch) → Batched g old (events_in b) (handled_in b) (Some fault) new
       → Passes before after (trace_of b) (record_of b) (texts_of b) → EndsBatch old new before after
   failed_end fault old new before after b given passes = record {
     last = b;
@@ -136,7 +136,7 @@ module _ {S : Type 0} (g : Ghosts S) where
   }
 
   -- serving ends in one of the two ways
-  ended : (limit : Option ℕ) (fault : LoopFault) (left : ℕ) (old : Timed (Keeping S)) (new : Keeping S) (before after : Traffic)
+  ended : (limit : Option ℕ) (fault : LoopFault) (left : ℕ) (old : Timed (ServerState S)) (new : ServerState S) (before after : Traffic)
       → EndsServing limit latest_in (Batched g) fault left old new before after → EndsBare old.server new before after ⊎ EndsBatch old.server new before after
   ended limit loops.Read left old new before after e =
       inl (record { same = e.0; last = []; unhandled = []; last_is = inl (refl, refl); passes = passes_none before after e.1 })
@@ -161,10 +161,10 @@ module _ {S : Type 0} (g : Ghosts S) where
       })
 
   -- the calls and the traffic of batches, and of what happens before and after them
-  abbrev Shows : Keeping S → Keeping S → Traffic → Traffic → Type 0
+  abbrev Shows : ServerState S → ServerState S → Traffic → Traffic → Type 0
   Shows old new before after = (calls : List Call) × Called g old calls new × IsTrafficOf calls before after
 
-  module _ (old mid new : Keeping S) (before after : Traffic) (first : List Happening) (first_is : (first ≡ []) ⊎ ((clocks : _) × (first ≡ clocks_asked clocks))) (list : List Batch)
+  module _ (old mid new : ServerState S) (before after : Traffic) (first : List Happening) (first_is : (first ≡ []) ⊎ ((clocks : _) × (first ≡ clocks_asked clocks))) (list : List Batch)
       (called : Called g old (calls_of_all list) mid) where
     -- nothing is handled after them
     bare : new ≡ mid → (last : List Happening) (unhandled : List ℕ) → IsAfterBatches last unhandled
@@ -172,7 +172,7 @@ module _ {S : Type 0} (g : Ghosts S) where
     unfolding answers_in
     bare same last unhandled last_is passes = (
       calls_of_all list,
-      subst (λ (s : Keeping S). Called g old (calls_of_all list) s) (sym same) called,
+      subst (λ (s : ServerState S). Called g old (calls_of_all list) s) (sym same) called,
       record {
         batches = list;
         are = are_all list;
@@ -252,10 +252,10 @@ module _ {S : Type 0} (g : Ghosts S) where
   serving limit (Err (loops.Serve fault)) count old new before after (inr n) = absurd n.1
 
   -- lines whose events have a history are calls, before those of the lines after them
-  lines_called : (lines after : List (List ℕ)) (events : List Event) (list : List Handled) (old mid new : Keeping S) (calls : List Call) (text : List ℕ)
+  lines_called : (lines after : List (List ℕ)) (events : List Event) (list : List Handled) (old mid new : ServerState S) (calls : List Call) (text : List ℕ)
       → AreEvents lines events → past.History (Steps g) old events list mid → Called g mid calls new → AreCallsOfLines after calls text
       → (all : List Call) × Called g old all new × AreCallsOfLines (lines ++ after) all (flat_map line_of list ++ text)
-  lines_called [] after [] [] old mid new calls text spelled same c are = (calls, subst (λ (s : Keeping S). Called g s calls new) same c, are)
+  lines_called [] after [] [] old mid new calls text spelled same c are = (calls, subst (λ (s : ServerState S). Called g s calls new) same c, are)
   lines_called (line ∷ lines) after (event ∷ events) (handled ∷ list) old mid new calls text spelled h c are =
       let later = lines_called lines after events list h.0 mid new calls text spelled.1 h.2 c are in (
         one event (Ok handled) ∷ later.0,
@@ -268,13 +268,13 @@ module _ {S : Type 0} (g : Ghosts S) where
   lines_called (line ∷ lines) after (event ∷ events) [] old mid new calls text spelled h c are = absurd h
 
   -- what is read at the end of a replay is no call, or one
-  abbrev IsLast : List (List ℕ) → Keeping S → Keeping S → List ℕ → List ℕ → Type 0
+  abbrev IsLast : List (List ℕ) → ServerState S → ServerState S → List ℕ → List ℕ → Type 0
   IsLast lines mid new between out = (calls : List Call) × (text : List ℕ) × Called g mid calls new × AreCallsOfLines lines calls text × (out ≡ between ++ text)
 
-  no_last : (lines : List (List ℕ)) (mid new : Keeping S) (between out : List ℕ) → new ≡ mid → out ≡ between → IsLast lines mid new between out
+  no_last : (lines : List (List ℕ)) (mid new : ServerState S) (between out : List ℕ) → new ≡ mid → out ≡ between → IsLast lines mid new between out
   no_last lines mid new between out same as_before = ([], [], same, refl, as_before ∙ sym (append-nil between))
 
-  last_of : (failed : Type 0) (fault : ReplayFault) (number : ℕ) (lines : List (List ℕ)) (mid new : Keeping S) (between out : List ℕ)
+  last_of : (failed : Type 0) (fault : ReplayFault) (number : ℕ) (lines : List (List ℕ)) (mid new : ServerState S) (between out : List ℕ)
       → Ends (Steps g) (Refuses g) failed fault number lines mid new between out → IsLast lines mid new between out
   last_of failed (replaying.BadLine k) number lines mid new between out e = no_last lines mid new between out e.2 e.3
   last_of failed (replaying.Serve fault) number [] mid new between out e = absurd e.0
@@ -287,7 +287,7 @@ module _ {S : Type 0} (g : Ghosts S) where
   last_of failed replaying.Memory number lines mid new between out e = no_last lines mid new between out e.1 e.2
 
   -- a replay over known bytes is calls
-  replayed : (failed : Type 0) (result : Result ℕ ReplayFault) (lines : List (List ℕ)) (old new : Keeping S) (before out : List ℕ)
+  replayed : (failed : Type 0) (result : Result ℕ ReplayFault) (lines : List (List ℕ)) (old new : ServerState S) (before out : List ℕ)
       → Replays (Steps g) (Refuses g) failed result lines old new before out
       → (calls : List Call) × (text : List ℕ) × Called g old calls new × AreCallsOfLines lines calls text × (out ≡ before ++ text)
   replayed failed (Ok count) lines old new before out r =
@@ -311,9 +311,9 @@ module _ {S : Type 0} (g : Ghosts S) where
       )
 
   -- events with their history are calls
-  all_called : (events : List Event) (list : List Handled) (old mid new : Keeping S) (after : List Call) → past.History (Steps g) old events list mid → Called g mid after new
+  all_called : (events : List Event) (list : List Handled) (old mid new : ServerState S) (after : List Call) → past.History (Steps g) old events list mid → Called g mid after new
       → (calls : List Call) × Called g old calls new
-  all_called [] [] old mid new after same c = (after, subst (λ (s : Keeping S). Called g s after new) same c)
+  all_called [] [] old mid new after same c = (after, subst (λ (s : ServerState S). Called g s after new) same c)
   all_called (event ∷ events) (handled ∷ list) old mid new after h c =
       let later = all_called events list h.0 mid new after h.2 c in
       (one event (Ok handled) ∷ later.0, (h.0, h.1, later.1))
@@ -321,7 +321,7 @@ module _ {S : Type 0} (g : Ghosts S) where
   all_called (event ∷ events) [] old mid new after h c = absurd h
 
   -- whatever a server reaches by events, it reaches by calls
-  reaching : (old new : Keeping S) → past.Reaches (Steps g) (Refuses g) old new → (calls : List Call) × Called g old calls new
+  reaching : (old new : ServerState S) → past.Reaches (Steps g) (Refuses g) old new → (calls : List Call) × Called g old calls new
   reaching old new r = ⊎_elim
       (λ same. all_called r.events r.list old r.mid new [] r.history same)
       (λ next. all_called r.events r.list old r.mid new (one next.0 (Err next.1) ∷ []) r.history (new, next.2, refl))

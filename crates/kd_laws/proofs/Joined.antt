@@ -13,8 +13,8 @@ use Rattle.kd_keeps.specs.declared.keeps.Keeps.{Ghosts}
 use Rattle.kd_laws.specs.Openings.{CommandsAreOpenings}
 use Rattle.kd_program.specs.Running.{ports_asked}
 use Rattle.kd_program.specs.declared.host.Host.{Ghosts as Hosts}
-use Rattle.kd_replay.specs.declared.ends.Sink.{Ghosts as Sinks}
-use Rattle.kd_replay.specs.declared.link.Link.{Ghosts as Links}
+use Rattle.kd_loops.specs.declared.ends.Sink.{Ghosts as Sinks}
+use Rattle.kd_loops.specs.declared.link.Link.{Ghosts as Links}
 use Rattle.kd_rows.specs.declared.row.Row.{Row}
 use Rattle.kd_laws.specs.Lives.{Call, IsDone, IsLeft, Life, LifeTo, Opening, OpeningsAreHistories, OpeningsEnd, WasHistory}
 use Rattle.kd_laws.specs.Sent.{NoReplyOverlaps}

@@ -16,11 +16,13 @@ use Rattle.kd_event.specs.declared.event.Response.{Response}
 use Rattle.kd_event.specs.declared.event.Response.TheVariants as responses
 use Rattle.kd_event.specs.declared.reason.Reason.{Reason}
 use Rattle.kd_event.specs.declared.reason.Reason.TheVariants as reasons
-use Rattle.kd_replay.specs.Finding.{HasNo}
-use Rattle.kd_replay.specs.Lines.{lines_of}
-use Rattle.kd_replay.specs.Serving.{Answered, behind_line, send_fault, text_of}
-use Rattle.kd_replay.specs.Text.{address_text, bytes_text, destination_text, line_of, mode_word, response_text}
-use Rattle.kd_replay.proofs.Looking.{lines_line, plain_append}
+use Rattle.kd_loops.specs.Lines.{lines_of}
+use Rattle.kd_loops.specs.Serving.{Answered, behind_line, send_fault, text_of}
+use Rattle.kd_loops.specs.Text.{destination_text, line_of, mode_word, response_text}
+use Rattle.kd_loops.proofs.Looking.{lines_line}
+use Rattle.kd_text.specs.Text.{address_text, bytes_text}
+use Rattle.kd_text.specs.Words.{HasNo}
+use Rattle.kd_text.proofs.Plain.{plain_append}
 use Rattle.kd_laws.specs.Recorded.{without_send_faults}
 
 -- whether a text is without a line feed

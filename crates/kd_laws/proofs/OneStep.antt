@@ -19,7 +19,7 @@ use Rattle.kd_options.specs.Reply.{base_cost, cost_of, first_pieces, item_cost, 
 use Rattle.kd_options.specs.declared.item.Item.{Item}
 use Rattle.kd_rows.specs.Table.{latest_of}
 use Rattle.kd_rows.specs.declared.row.Row.{Row}
-use Rattle.kd_server.specs.Keeping.{StepsTo}
+use Rattle.kd_server.specs.Server.{StepsTo}
 use Rattle.kd_laws.specs.OneStep.{OneHistory, OneStep, StandAlike}
 use Rattle.kd_server.specs.Step.{IsAnswered, IsUnreadable, Responds}
 use Rattle.kd_wire.specs.Area.{IsArea, Piece}

@@ -14,26 +14,26 @@ use Rattle.kd_event.specs.declared.event.Event.{Event}
 use Rattle.kd_event.specs.declared.event.Handled.{Handled}
 use Rattle.kd_event.specs.declared.ports.Ports.{Ports}
 use Rattle.kd_keeps.specs.declared.keeps.Keeps.{Ghosts}
-use Rattle.kd_replay.specs.Ahead.{clocks_asked}
-use Rattle.kd_replay.specs.Arriving.{IsRecordable}
-use Rattle.kd_replay.specs.Finding.{HasNo}
-use Rattle.kd_replay.specs.History as past
-use Rattle.kd_replay.specs.Lines.{IsEventLine, lines_of, number_after}
-use Rattle.kd_replay.specs.Recording.{record_line}
-use Rattle.kd_replay.specs.Replay.{AreEvents, Did, Ends, Stops}
-use Rattle.kd_replay.specs.Serving.{Answered, Batch, Follow, HasServed, Passes, ServesTo, Timed, Traffic, events_in, handled_in, record_of, text_of, texts_of, trace_of}
-use Rattle.kd_replay.specs.Text.{line_of}
-use Rattle.kd_replay.specs.declared.fault.LoopFault.{LoopFault}
-use Rattle.kd_replay.specs.declared.fault.LoopFault.TheVariants as faults
-use Rattle.kd_replay.specs.declared.fault.ReplayFault.{ReplayFault}
-use Rattle.kd_replay.specs.declared.fault.ReplayFault.TheVariants as replaying
-use Rattle.kd_replay.specs.declared.happening.Happening.{Happening}
-use Rattle.kd_replay.proofs.Batches.{passes_then}
-use Rattle.kd_replay.proofs.Recorded.{all_recordable, records_are, records_replay}
-use Rattle.kd_replay.proofs.Spelling.{digits_plain}
+use Rattle.kd_loops.specs.Ahead.{clocks_asked}
+use Rattle.kd_loops.specs.Arriving.{IsRecordable}
+use Rattle.kd_loops.specs.History as past
+use Rattle.kd_loops.specs.Lines.{IsEventLine, lines_of, number_after}
+use Rattle.kd_loops.specs.Recording.{record_line}
+use Rattle.kd_loops.specs.Replay.{AreEvents, Did, Ends, Stops}
+use Rattle.kd_loops.specs.Serving.{Answered, Batch, Follow, HasServed, Passes, ServesTo, Timed, Traffic, events_in, handled_in, record_of, text_of, texts_of, trace_of}
+use Rattle.kd_loops.specs.Text.{line_of}
+use Rattle.kd_loops.specs.declared.fault.LoopFault.{LoopFault}
+use Rattle.kd_loops.specs.declared.fault.LoopFault.TheVariants as faults
+use Rattle.kd_loops.specs.declared.fault.ReplayFault.{ReplayFault}
+use Rattle.kd_loops.specs.declared.fault.ReplayFault.TheVariants as replaying
+use Rattle.kd_loops.specs.declared.happening.Happening.{Happening}
+use Rattle.kd_loops.proofs.Batches.{passes_then}
+use Rattle.kd_loops.proofs.Recorded.{all_recordable, records_are, records_replay}
+use Rattle.kd_loops.proofs.Spelling.{digits_plain}
 use Rattle.kd_rows.specs.declared.row.Row.{Row}
 use Rattle.kd_server.specs.Batch.{Batched, LeavesOut}
-use Rattle.kd_server.specs.Keeping.{Keeping, Refuses, Steps, StepsTo, latest_in}
+use Rattle.kd_server.specs.Server.{ServerState, Refuses, Steps, StepsTo, latest_in}
+use Rattle.kd_text.specs.Words.{HasNo}
 use Rattle.kd_laws.specs.OneStep.{OneStep}
 use Rattle.kd_laws.specs.Recorded.{GrowsByPrefix, GrowsByLog, HasGrown, IsBetweenBatches, ReplayRepeatsSession, ReplayRepeatsSessions, ReplayStopsOnTheWay, Session, SessionsAreHistories, SessionsFollow, IsServerOver, WasSession, without_send_faults}
 use Rattle.kd_laws.proofs.LogLines.{lines_left}
@@ -81,7 +81,7 @@ history_append gives (a ∷ firsts) seconds [] ys old mid new h k = absurd h
 history_append gives (a ∷ firsts) seconds (x ∷ xs) ys old mid new h k = (h.0, h.1, history_append gives firsts seconds xs ys h.0 mid new h.2 k)
 
 -- a server's history is one of its rows, and it keeps its configuration and its ports
-steps_are : {T : Type 0} (h : Ghosts T) (config : Configuration) (ports : Ports) (events : List Event) (list : List Handled) (old new : Keeping T) → old.ports ≡ ports → old.config ≡ config
+steps_are : {T : Type 0} (h : Ghosts T) (config : Configuration) (ports : Ports) (events : List Event) (list : List Handled) (old new : ServerState T) → old.ports ≡ ports → old.config ≡ config
     → past.History (Steps h) old events list new → past.History (StepsTo config ports) old.rows events list new.rows × (new.ports ≡ ports) × (new.config ≡ config)
 steps_are h config ports [] [] old new p c is = (ap (λ s. s.rows) is, ap (λ s. s.ports) is ∙ p, ap (λ s. s.config) is ∙ c)
 steps_are h config ports [] (x ∷ list) old new p c is = absurd is
@@ -141,12 +141,12 @@ grown_is old new more bytes h a =
 
 module _ {S : Type 0} (g : Ghosts S) where
   -- batches that follow one another are a history
-  followed : (limit : Option ℕ) (config : Configuration) (ports : Ports) (list : List Batch) (old new : Timed (Keeping S)) → old.server.ports ≡ ports → old.server.config ≡ config
+  followed : (limit : Option ℕ) (config : Configuration) (ports : Ports) (list : List Batch) (old new : Timed (ServerState S)) → old.server.ports ≡ ports → old.server.config ≡ config
       → Follow limit latest_in (Batched g) old list new
       → past.History (StepsTo config ports) old.server.rows (flat_map events_in list) (flat_map handled_in list) new.server.rows × (new.server.ports ≡ ports) × (new.server.config ≡ config)
   followed limit config ports [] old new p c f = (ap (λ s. s.server.rows) f, ap (λ s. s.server.ports) f ∙ p, ap (λ s. s.server.config) f ∙ c)
   followed limit config ports (b ∷ list) old new p c f =
-      let mid : Keeping S = f.1.0 in
+      let mid : ServerState S = f.1.0 in
       let first = whole_run (StepsTo old.server.config old.server.ports) (events_in b) (handled_in b) old.server.rows mid.rows f.1.1.runs in
       let steps : past.History (StepsTo config ports) old.server.rows (events_in b) (handled_in b) mid.rows =
       subst (λ (q : Configuration). past.History (StepsTo q ports) old.server.rows (events_in b) (handled_in b) mid.rows) c
@@ -158,7 +158,7 @@ module _ {S : Type 0} (g : Ghosts S) where
       )
 
   -- serving was these batches
-  record AreBatches (old new : Keeping S) (before after : Traffic) : Type 0 where
+  record AreBatches (old new : ServerState S) (before after : Traffic) : Type 0 where
     list : List Batch
     trace : List Happening
     passes : Passes before after trace (flat_map record_of list) (flat_map texts_of list)
@@ -167,12 +167,12 @@ module _ {S : Type 0} (g : Ghosts S) where
     config : new.config ≡ old.config
 
   -- no batch
-  none_are : (old new : Keeping S) (before after : Traffic) (trace : List Happening) → new ≡ old → Passes before after trace [] [] → AreBatches old new before after
+  none_are : (old new : ServerState S) (before after : Traffic) (trace : List Happening) → new ≡ old → Passes before after trace [] [] → AreBatches old new before after
   none_are old new before after trace same passes =
       record { list = []; trace = trace; passes = passes; history = ap (λ s. s.rows) same; ports = ap (λ s. s.ports) same; config = ap (λ s. s.config) same }
 
   -- batches that were served from the start on
-  served_are : (limit : Option ℕ) (count : ℕ) (old : Timed (Keeping S)) (new : Timed (Keeping S)) (before begun after : Traffic) (trace : List Happening)
+  served_are : (limit : Option ℕ) (count : ℕ) (old : Timed (ServerState S)) (new : Timed (ServerState S)) (before begun after : Traffic) (trace : List Happening)
       → Passes before begun trace [] [] → HasServed limit latest_in (Batched g) count old new begun after → AreBatches old.server new.server before after
   served_are limit count old new before begun after trace asked s =
       let f = followed limit old.server.config old.server.ports s.list old new refl refl s.follow in
@@ -186,7 +186,7 @@ module _ {S : Type 0} (g : Ghosts S) where
       }
 
   -- and after which nothing is recorded or written
-  then_none : (old mid new : Keeping S) (before between after : Traffic) (trace : List Happening) → AreBatches old mid before between → new ≡ mid → Passes between after trace [] []
+  then_none : (old mid new : ServerState S) (before between after : Traffic) (trace : List Happening) → AreBatches old mid before between → new ≡ mid → Passes between after trace [] []
       → AreBatches old new before after
   then_none old mid new before between after trace a same passes =
       let both = passes_then before between after a.trace trace (flat_map record_of a.list) [] (flat_map texts_of a.list) [] a.passes passes in
@@ -204,7 +204,7 @@ module _ {S : Type 0} (g : Ghosts S) where
       }
 
   -- serving that ends between two batches was batches
-  batches_are : (limit : Option ℕ) (result : Result Unit LoopFault) (count : ℕ) (old new : Keeping S) (before after : Traffic) → IsBetweenBatches result
+  batches_are : (limit : Option ℕ) (result : Result Unit LoopFault) (count : ℕ) (old new : ServerState S) (before after : Traffic) → IsBetweenBatches result
       → ServesTo limit latest_in (Batched g) result count old new before after → AreBatches old new before after
   batches_are limit (Ok done) count old new before after between (inl s) =
       served_are limit count (record { server = old; clocks = s.clocks }) (record { server = new; clocks = s.goes.0 }) before s.begun after (clocks_asked s.clocks) s.asked s.goes.1
@@ -212,7 +212,7 @@ module _ {S : Type 0} (g : Ghosts S) where
   batches_are limit (Err faults.Read) count old new before after between (inl s) =
       let e = s.goes in
       let a = served_are limit e.done (record { server = old; clocks = s.clocks }) e.mid before s.begun e.between (clocks_asked s.clocks) s.asked e.served in
-      subst (λ (t : Traffic). AreBatches old new before t) (sym e.ends.1) (subst (λ (n : Keeping S). AreBatches old n before e.between) (sym e.ends.0) a)
+      subst (λ (t : Traffic). AreBatches old new before t) (sym e.ends.1) (subst (λ (n : ServerState S). AreBatches old n before e.between) (sym e.ends.0) a)
   batches_are limit (Err faults.Read) count old new before after between (inr n) = absurd n.1
   batches_are limit (Err faults.Ahead) count old new before after between (inl s) =
       let e = s.goes in
@@ -278,7 +278,7 @@ module _ (config : Configuration) (ports : Ports) where
 
 module _ (one : OneStep) {T : Type 0} (h : Ghosts T) where
   -- a replay of what was recorded in a session repeats it
-  repeats : (config : Configuration) (ports : Ports) (session : Session) (its new : Keeping T) (text out : List ℕ) → WasSession config ports session → IsServerOver config ports session.begins its
+  repeats : (config : Configuration) (ports : Ports) (session : Session) (its new : ServerState T) (text out : List ℕ) → WasSession config ports session → IsServerOver config ports session.begins its
       → Did (Steps h) (lines_of session.recorded) its new text out → GrowsByLog session.logged text out × IsServerOver config ports session.ends new
   repeats config ports session its new text out w at d = (
     record {
@@ -398,7 +398,7 @@ prefix_of_log config ports session early late text out w all f = record {
 
 module _ (one : OneStep) {T : Type 0} (h : Ghosts T) (config : Configuration) (ports : Ports) where
   -- where a replay stops it has written such a prefix, and it stops at no line that is not an event
-  stopped : (failed : Type 0) (fault : ReplayFault) (number : ℕ) (after : List (List ℕ)) (later : List Event) (early late : List Handled) (mid new : Keeping T) (last : List Row)
+  stopped : (failed : Type 0) (fault : ReplayFault) (number : ℕ) (after : List (List ℕ)) (later : List Event) (early late : List Handled) (mid new : ServerState T) (last : List Row)
       (text between out : List ℕ) → AreEvents after later → mid.ports ≡ ports → mid.config ≡ config → past.History (StepsTo config ports) mid.rows later late last
       → between ≡ text ++ flat_map line_of early → Ends (Steps h) (Refuses h) failed fault number after mid new between out
       → WritesPrefix early late text out × ((line : ℕ) → fault ≢ replaying.BadLine line)
@@ -420,7 +420,7 @@ module _ (one : OneStep) {T : Type 0} (h : Ghosts T) (config : Configuration) (p
       let same = one config ports mid.rows event ends.handled x new.rows is.0 step is.1 in
       (prefix_part early late x text between out ends.part ends.more written (ap line_of (sym same.0) ∙ ends.cut) ends.written, λ line e. cc)
 
-  stops_session : (session : Session) (failed : Type 0) (fault : ReplayFault) (its new : Keeping T) (text out : List ℕ) (w : WasSession config ports session) → IsServerOver config ports session.begins its
+  stops_session : (session : Session) (failed : Type 0) (fault : ReplayFault) (its new : ServerState T) (text out : List ℕ) (w : WasSession config ports session) → IsServerOver config ports session.begins its
       → (s : Stops (Steps h) (Refuses h) failed fault (lines_of session.recorded) its new text out) → GrowsByPrefix session.logged text out × ((line : ℕ) → fault ≢ replaying.BadLine line)
   stops_session session failed fault its new text out w at s = (prefix_of_log config ports session s.did.list parts.late text out w all ends.0, ends.1)
     where

@@ -11,14 +11,14 @@ use Rattle.kd_event.specs.declared.event.Handled.{Handled}
 use Rattle.kd_event.specs.declared.ports.Ports.{Ports}
 use Rattle.kd_keeps.specs.declared.keeps.Keeps.{Ghosts}
 use Rattle.kd_lease.specs.Change.{Changes}
-use Rattle.kd_replay.specs.History as past
-use Rattle.kd_replay.specs.declared.fault.ServeFault.{ServeFault}
-use Rattle.kd_replay.specs.declared.fault.ServeFault.TheVariants as faults
+use Rattle.kd_loops.specs.History as past
+use Rattle.kd_loops.specs.declared.fault.ServeFault.{ServeFault}
+use Rattle.kd_loops.specs.declared.fault.ServeFault.TheVariants as faults
 use Rattle.kd_rows.specs.Table.{latest_of}
 use Rattle.kd_rows.specs.declared.row.Row.{Row}
 use Rattle.kd_keeps.specs.declared.fault.StoreFault.{StoreFault}
 use Rattle.kd_server.specs.Batch.{IsCommitted, IsLost, LeavesOut}
-use Rattle.kd_server.specs.Keeping.{IsStopped, Keeping, Refuses, Steps, StepsTo, StoreHolds}
+use Rattle.kd_server.specs.Server.{IsStopped, ServerState, Refuses, Steps, StepsTo, StoreHolds}
 use Rattle.kd_laws.specs.Lives.{AreSteps, Call, CallAnswers, Called, IsDone, IsIdle, IsLeft, IsNoRun, IsRun, LivesAreHistories, LivesKeepConfigurations, Opening, OpeningsAreHistories, OpeningsEnd, Report, RunsAreCalls, calls_of, reports, reports_of}
 use Rattle.kd_laws.specs.Lives.Call.{one, batch}
 use Rattle.kd_laws.specs.NoOverlap.{AreOfOne, HistoryTo, LeaseHistory, LeaseStep, now_of}
@@ -158,25 +158,25 @@ failed_idle config ports (event ∷ events) known es are =
 
 module _ {S : Type 0} (g : Ghosts S) where
   -- if the disk is clean after a call, it was clean before
-  clean_before : (old new : Keeping S) (call : Call) → CallAnswers g old call new → g.has_clean_disk new.store → g.has_clean_disk old.store
+  clean_before : (old new : ServerState S) (call : Call) → CallAnswers g old call new → g.has_clean_disk new.store → g.has_clean_disk old.store
   clean_before old new (one event (Ok handled)) a clean = a.store.clean clean
-  clean_before old new (one event (Err faults.MomentTooLarge)) a clean = subst (λ (s : Keeping S). g.has_clean_disk s.store) a.2 clean
-  clean_before old new (one event (Err faults.Memory)) a clean = subst (λ (s : Keeping S). g.has_clean_disk s.store) a.3 clean
+  clean_before old new (one event (Err faults.MomentTooLarge)) a clean = subst (λ (s : ServerState S). g.has_clean_disk s.store) a.2 clean
+  clean_before old new (one event (Err faults.Memory)) a clean = subst (λ (s : ServerState S). g.has_clean_disk s.store) a.3 clean
   clean_before old new (one event (Err (faults.Store fault))) a clean = a.store.clean clean
-  clean_before old new (one event (Err faults.Failed)) a clean = subst (λ (s : Keeping S). g.has_clean_disk s.store) a.1 clean
+  clean_before old new (one event (Err faults.Failed)) a clean = subst (λ (s : ServerState S). g.has_clean_disk s.store) a.1 clean
   clean_before old new (batch events list None) a clean = a.store.clean clean
   clean_before old new (batch events list (Some faults.MomentTooLarge)) a clean = a.store.clean clean
   clean_before old new (batch events list (Some faults.Memory)) a clean = a.store.clean clean
   clean_before old new (batch events list (Some (faults.Store fault))) a clean = a.store.clean clean
-  clean_before old new (batch events list (Some faults.Failed)) a clean = subst (λ (s : Keeping S). g.has_clean_disk s.store) a.2 clean
+  clean_before old new (batch events list (Some faults.Failed)) a clean = subst (λ (s : ServerState S). g.has_clean_disk s.store) a.2 clean
 
   -- if the disk is clean after calls, it was clean before
-  clean_first : (calls : List Call) (old new : Keeping S) → Called g old calls new → g.has_clean_disk new.store → g.has_clean_disk old.store
-  clean_first [] old new same clean = subst (λ (s : Keeping S). g.has_clean_disk s.store) same clean
+  clean_first : (calls : List Call) (old new : ServerState S) → Called g old calls new → g.has_clean_disk new.store → g.has_clean_disk old.store
+  clean_first [] old new same clean = subst (λ (s : ServerState S). g.has_clean_disk s.store) same clean
   clean_first (call ∷ calls) old new c clean = clean_before old c.0 call c.1 (clean_first calls c.0 new c.2 clean)
 
   -- a server whose store has failed answers Failed, and nothing happens
-  stuck : (old new : Keeping S) (call : Call) → is_some (g.fault old.store) ≡ true → CallAnswers g old call new
+  stuck : (old new : ServerState S) (call : Call) → is_some (g.fault old.store) ≡ true → CallAnswers g old call new
       → (new ≡ old) × ((config : Configuration) (ports : Ports) (calls : List Call) → AreSteps config ports (reports calls) [] → AreSteps config ports (reports (call ∷ calls)) [])
   stuck old new (one event (Ok handled)) failed a = absurd (false≢true (sym a.worked ∙ failed))
   stuck old new (one event (Err faults.MomentTooLarge)) failed a = absurd (false≢true (sym a.0 ∙ failed))
@@ -195,30 +195,30 @@ module _ {S : Type 0} (g : Ghosts S) where
   )
 
   -- so do all later calls
-  stuck_all : (config : Configuration) (ports : Ports) (calls : List Call) (old new : Keeping S) → is_some (g.fault old.store) ≡ true → Called g old calls new
+  stuck_all : (config : Configuration) (ports : Ports) (calls : List Call) (old new : ServerState S) → is_some (g.fault old.store) ≡ true → Called g old calls new
       → (new ≡ old) × AreSteps config ports (reports calls) []
   stuck_all config ports [] old new failed same = (same, refl)
   stuck_all config ports (call ∷ calls) old new failed c =
       let first = stuck old c.0 call failed c.1 in
-      let later = stuck_all config ports calls c.0 new (ap (λ (s : Keeping S). is_some (g.fault s.store)) first.0 ∙ failed) c.2 in
+      let later = stuck_all config ports calls c.0 new (ap (λ (s : ServerState S). is_some (g.fault s.store)) first.0 ∙ failed) c.2 in
       (later.0 ∙ first.0, first.1 config ports calls later.1)
 
   -- the rows that are found after calls: those of the server, or rows that a crash leaves
-  abbrev IsFound : Keeping S → List Row → Type 0
+  abbrev IsFound : ServerState S → List Row → Type 0
   IsFound new last = (last ≡ new.rows) ⊎ IsLeft g new.store last
 
   -- the reports of calls on a server, whatever is found after them
-  abbrev Tells : Keeping S → List Call → Keeping S → Type 0
+  abbrev Tells : ServerState S → List Call → ServerState S → Type 0
   Tells old calls new = (last : List Row) → IsFound new last → Told old.config old.ports old.rows (reports calls) last
 
   -- the reports from a server with the same configuration and ports
-  from : (old mid : Keeping S) (known : List Report) (last : List Row) → mid.ports ≡ old.ports → mid.config ≡ old.config
+  from : (old mid : ServerState S) (known : List Report) (last : List Row) → mid.ports ≡ old.ports → mid.config ≡ old.config
       → Told mid.config mid.ports mid.rows known last → Told old.config old.ports mid.rows known last
   from old mid known last ports config t = subst (λ (c : Configuration). Told c old.ports mid.rows known last) config
       (subst (λ (p : Ports). Told mid.config p mid.rows known last) ports t)
 
   -- the step of an answer comes before those of later calls
-  answered : (old mid new : Keeping S) (event : Event) (handled : Handled) (calls : List Call) → Steps g old event handled mid
+  answered : (old mid new : ServerState S) (event : Event) (handled : Handled) (calls : List Call) → Steps g old event handled mid
       → Tells mid calls new → Tells old (one event (Ok handled) ∷ calls) new
   answered old mid new event handled calls a tells last found =
       step_told old.config old.ports old.rows mid.rows last event handled false (reports calls) a.step
@@ -226,7 +226,7 @@ module _ {S : Type 0} (g : Ghosts S) where
 
   -- a stopped step is the last in which something happens: it leaves the rows before it, or those
   -- after
-  stopped : (old mid new : Keeping S) (event : Event) (why : StoreFault) (stop : IsStopped g why old event mid) (calls : List Call) → new ≡ mid
+  stopped : (old mid new : ServerState S) (event : Event) (why : StoreFault) (stop : IsStopped g why old event mid) (calls : List Call) → new ≡ mid
       → AreSteps old.config old.ports (reports calls) [] → g.has_clean_disk mid.store → StoreHolds g old.store old.rows → (last : List Row) → IsFound new last
       → Told old.config old.ports old.rows (reports (one event (Err (faults.Store why)) ∷ calls)) last
   stopped old mid new event why stop calls same none clean holds last found = ⊎_elim unread read stop.step.done where
@@ -238,8 +238,8 @@ module _ {S : Type 0} (g : Ghosts S) where
 
     either : (last ≡ old.rows) ⊎ (last ≡ stop.after)
     either = ⊎_elim
-        (λ rows. inl (rows ∙ ap (λ (s : Keeping S). s.rows) same ∙ stop.same.rows))
-        (λ left. left old.rows stop.after (subst (λ (s : Keeping S). g.leaves s.store old.rows stop.after) (sym same) (stop.store.left clean holds)))
+        (λ rows. inl (rows ∙ ap (λ (s : ServerState S). s.rows) same ∙ stop.same.rows))
+        (λ left. left old.rows stop.after (subst (λ (s : ServerState S). g.leaves s.store old.rows stop.after) (sym same) (stop.store.left clean holds)))
         found
 
     read : IsAnswered latest_of (Changes old.config) old.ports old.rows event stop.handled.now stop.handled.response stop.after → Told old.config old.ports old.rows known last
@@ -253,13 +253,13 @@ module _ {S : Type 0} (g : Ghosts S) where
         }
 
   -- the reports of calls after one that changed nothing
-  unchanged : (old mid new : Keeping S) (event : Event) (answer : Result Handled ServeFault) (calls : List Call) → IsIdle false event answer → mid ≡ old → Tells mid calls new
+  unchanged : (old mid new : ServerState S) (event : Event) (answer : Result Handled ServeFault) (calls : List Call) → IsIdle false event answer → mid ≡ old → Tells mid calls new
       → Tells old (one event answer ∷ calls) new
   unchanged old mid new event answer calls idle same tells last found =
-      idle_told old.config old.ports old.rows _ (reports calls) last idle (subst (λ (s : Keeping S). Told s.config s.ports s.rows (reports calls) last) same (tells last found))
+      idle_told old.config old.ports old.rows _ (reports calls) last idle (subst (λ (s : ServerState S). Told s.config s.ports s.rows (reports calls) last) same (tells last found))
 
   -- the reports of a batch that was committed, and of later calls
-  committed : (old mid new : Keeping S) (events : List Event) (list : List Handled) (fault : Option ServeFault) (calls : List Call)
+  committed : (old mid new : ServerState S) (events : List Event) (list : List Handled) (fault : Option ServeFault) (calls : List Call)
       → IsCommitted g old events list fault mid → Tells mid calls new → Tells old (batch events list fault ∷ calls) new
   committed old mid new events list fault calls a tells last found =
       let r = a.runs in
@@ -269,7 +269,7 @@ module _ {S : Type 0} (g : Ghosts S) where
       (history_told old.config old.ports r.done r.after list fault (reports calls) old.rows r.mid last r.history ended)
 
   -- the reports of a batch whose commit has failed: the rows before it are left, or those after it
-  lost : (old mid new : Keeping S) (events : List Event) (list : List Handled) (why : StoreFault) (calls : List Call) → IsLost g why old events list mid → new ≡ mid
+  lost : (old mid new : ServerState S) (events : List Event) (list : List Handled) (why : StoreFault) (calls : List Call) → IsLost g why old events list mid → new ≡ mid
       → AreSteps old.config old.ports (reports calls) [] → g.has_clean_disk mid.store → StoreHolds g old.store old.rows → (last : List Row) → IsFound new last
       → Told old.config old.ports old.rows (reports (batch events list (Some (faults.Store why)) ∷ calls)) last
   lost old mid new events list why calls a same none clean holds last found =
@@ -277,8 +277,8 @@ module _ {S : Type 0} (g : Ghosts S) where
       (⊎_elim before after either) where
         either : (last ≡ old.rows) ⊎ (last ≡ mid.rows)
         either = ⊎_elim
-            (λ rows. inr (rows ∙ ap (λ (s : Keeping S). s.rows) same))
-            (λ left. left old.rows mid.rows (subst (λ (s : Keeping S). g.leaves s.store old.rows mid.rows) (sym same) (a.store.left clean holds)))
+            (λ rows. inr (rows ∙ ap (λ (s : ServerState S). s.rows) same))
+            (λ left. left old.rows mid.rows (subst (λ (s : ServerState S). g.leaves s.store old.rows mid.rows) (sym same) (a.store.left clean holds)))
             found
 
         before : last ≡ old.rows → Told old.config old.ports old.rows (reports_of events [] (Some (faults.Store why)) ++ reports calls) last
@@ -293,27 +293,27 @@ module _ {S : Type 0} (g : Ghosts S) where
             (subst (λ (es : List Event). Told old.config old.ports old.rows (reports_of es [] (Some (faults.Store why)) ++ reports calls) r.mid) (sym r.all) all)
 
   -- the reports of a batch of a server whose store had failed, and of later calls
-  not_begun : (old mid new : Keeping S) (events : List Event) (list : List Handled) (calls : List Call) → list ≡ [] → mid ≡ old → Tells mid calls new
+  not_begun : (old mid new : ServerState S) (events : List Event) (list : List Handled) (calls : List Call) → list ≡ [] → mid ≡ old → Tells mid calls new
       → Tells old (batch events list (Some faults.Failed) ∷ calls) new
   not_begun old mid new events list calls none same tells last found =
-      let later : Told old.config old.ports old.rows (reports calls) last = subst (λ (s : Keeping S). Told s.config s.ports s.rows (reports calls) last) same (tells last found) in
+      let later : Told old.config old.ports old.rows (reports calls) last = subst (λ (s : ServerState S). Told s.config s.ports s.rows (reports calls) last) same (tells last found) in
       subst (λ (l : List Handled). Told old.config old.ports old.rows (reports_of events l (Some faults.Failed) ++ reports calls) last) (sym none)
       (record { steps = later.steps; history = later.history; are = failed_idle old.config old.ports events (reports calls) later.steps later.are })
 
   -- the reports of a call and of those after it
-  first : (old mid new : Keeping S) (call : Call) (calls : List Call) → CallAnswers g old call mid
+  first : (old mid new : ServerState S) (call : Call) (calls : List Call) → CallAnswers g old call mid
       → Called g mid calls new → g.has_clean_disk mid.store → StoreHolds g old.store old.rows → (StoreHolds g mid.store mid.rows → Tells mid calls new)
       → Tells old (call ∷ calls) new
   first old mid new (one event (Ok handled)) calls a later clean holds tells = answered old mid new event handled calls a (tells (a.store.holds clean holds))
   first old mid new (one event (Err faults.MomentTooLarge)) calls a later clean holds tells =
-      unchanged old mid new event (Err faults.MomentTooLarge) calls tt a.2 (tells (subst (λ (s : Keeping S). StoreHolds g s.store s.rows) (sym a.2) holds))
+      unchanged old mid new event (Err faults.MomentTooLarge) calls tt a.2 (tells (subst (λ (s : ServerState S). StoreHolds g s.store s.rows) (sym a.2) holds))
   first old mid new (one event (Err faults.Memory)) calls a later clean holds tells =
-      unchanged old mid new event (Err faults.Memory) calls tt a.3 (tells (subst (λ (s : Keeping S). StoreHolds g s.store s.rows) (sym a.3) holds))
+      unchanged old mid new event (Err faults.Memory) calls tt a.3 (tells (subst (λ (s : ServerState S). StoreHolds g s.store s.rows) (sym a.3) holds))
   first old mid new (one event (Err (faults.Store fault))) calls a later clean holds tells = λ last found.
       let rest = stuck_all old.config old.ports calls mid new (ap is_some a.store.failed) later in
       stopped old mid new event fault a calls rest.0 rest.1 clean holds last found
   first old mid new (one event (Err faults.Failed)) calls a later clean holds tells =
-      unchanged old mid new event (Err faults.Failed) calls tt a.1 (tells (subst (λ (s : Keeping S). StoreHolds g s.store s.rows) (sym a.1) holds))
+      unchanged old mid new event (Err faults.Failed) calls tt a.1 (tells (subst (λ (s : ServerState S). StoreHolds g s.store s.rows) (sym a.1) holds))
   first old mid new (batch events list None) calls a later clean holds tells = committed old mid new events list None calls a (tells (a.store.holds clean holds))
   first old mid new (batch events list (Some faults.MomentTooLarge)) calls a later clean holds tells =
       committed old mid new events list (Some faults.MomentTooLarge) calls a (tells (a.store.holds clean holds))
@@ -323,15 +323,15 @@ module _ {S : Type 0} (g : Ghosts S) where
       let rest = stuck_all old.config old.ports calls mid new (ap is_some a.store.failed) later in
       lost old mid new events list fault calls a rest.0 rest.1 clean holds last found
   first old mid new (batch events list (Some faults.Failed)) calls a later clean holds tells =
-      not_begun old mid new events list calls a.1 a.2 (tells (subst (λ (s : Keeping S). StoreHolds g s.store s.rows) (sym a.2) holds))
+      not_begun old mid new events list calls a.1 a.2 (tells (subst (λ (s : ServerState S). StoreHolds g s.store s.rows) (sym a.2) holds))
 
   -- the reports of all calls
-  all : (calls : List Call) (old new : Keeping S) → Called g old calls new → g.has_clean_disk new.store → StoreHolds g old.store old.rows → Tells old calls new
+  all : (calls : List Call) (old new : ServerState S) → Called g old calls new → g.has_clean_disk new.store → StoreHolds g old.store old.rows → Tells old calls new
   all [] old new same clean holds = λ last found. record {
     steps = [];
     history = ⊎_elim
-        (λ rows. rows ∙ ap (λ (s : Keeping S). s.rows) same)
-        (λ left. ⊎_elim (λ e. e) (λ e. e) (left old.rows old.rows (subst (λ (s : Keeping S). g.leaves s.store old.rows old.rows) (sym same) holds.leaves)))
+        (λ rows. rows ∙ ap (λ (s : ServerState S). s.rows) same)
+        (λ left. ⊎_elim (λ e. e) (λ e. e) (left old.rows old.rows (subst (λ (s : ServerState S). g.leaves s.store old.rows old.rows) (sym same) holds.leaves)))
         found;
     are = refl;
   }
@@ -385,29 +385,29 @@ module _ {S : Type 0} (g : Ghosts S) where
       record { sound = sound_of o is.store is.left is.done; steps = e.steps; last = rows; history = e.history; are = e.are; found = λ other same. same_Some rows other same }
 
   -- a crash of a store leaves one of two tables
-  abbrev Leaves : Keeping S → Type 0
+  abbrev Leaves : ServerState S → Type 0
   Leaves s = (before : List Row) × (after : List Row) × g.leaves s.store before after
 
   -- the same after a call and those after it
-  ends_one : (old mid new : Keeping S) (call : Call) (calls : List Call) → CallAnswers g old call mid
+  ends_one : (old mid new : ServerState S) (call : Call) (calls : List Call) → CallAnswers g old call mid
       → Called g mid calls new → g.has_clean_disk mid.store → StoreHolds g old.store old.rows → (StoreHolds g mid.store mid.rows → Leaves new) → Leaves new
   ends_one old mid new (one event (Ok handled)) calls a later clean holds ends = ends (a.store.holds clean holds)
-  ends_one old mid new (one event (Err faults.MomentTooLarge)) calls a later clean holds ends = ends (subst (λ (s : Keeping S). StoreHolds g s.store s.rows) (sym a.2) holds)
-  ends_one old mid new (one event (Err faults.Memory)) calls a later clean holds ends = ends (subst (λ (s : Keeping S). StoreHolds g s.store s.rows) (sym a.3) holds)
+  ends_one old mid new (one event (Err faults.MomentTooLarge)) calls a later clean holds ends = ends (subst (λ (s : ServerState S). StoreHolds g s.store s.rows) (sym a.2) holds)
+  ends_one old mid new (one event (Err faults.Memory)) calls a later clean holds ends = ends (subst (λ (s : ServerState S). StoreHolds g s.store s.rows) (sym a.3) holds)
   ends_one old mid new (one event (Err (faults.Store fault))) calls a later clean holds ends =
       let rest = stuck_all old.config old.ports calls mid new (ap is_some a.store.failed) later in
       subst Leaves (sym rest.0) (old.rows, a.after, a.store.left clean holds)
-  ends_one old mid new (one event (Err faults.Failed)) calls a later clean holds ends = ends (subst (λ (s : Keeping S). StoreHolds g s.store s.rows) (sym a.1) holds)
+  ends_one old mid new (one event (Err faults.Failed)) calls a later clean holds ends = ends (subst (λ (s : ServerState S). StoreHolds g s.store s.rows) (sym a.1) holds)
   ends_one old mid new (batch events list None) calls a later clean holds ends = ends (a.store.holds clean holds)
   ends_one old mid new (batch events list (Some faults.MomentTooLarge)) calls a later clean holds ends = ends (a.store.holds clean holds)
   ends_one old mid new (batch events list (Some faults.Memory)) calls a later clean holds ends = ends (a.store.holds clean holds)
   ends_one old mid new (batch events list (Some (faults.Store fault))) calls a later clean holds ends =
       let rest = stuck_all old.config old.ports calls mid new (ap is_some a.store.failed) later in
       subst Leaves (sym rest.0) (old.rows, mid.rows, a.store.left clean holds)
-  ends_one old mid new (batch events list (Some faults.Failed)) calls a later clean holds ends = ends (subst (λ (s : Keeping S). StoreHolds g s.store s.rows) (sym a.2) holds)
+  ends_one old mid new (batch events list (Some faults.Failed)) calls a later clean holds ends = ends (subst (λ (s : ServerState S). StoreHolds g s.store s.rows) (sym a.2) holds)
 
   -- and after all calls
-  ends_all : (calls : List Call) (old new : Keeping S) → Called g old calls new → g.has_clean_disk new.store → StoreHolds g old.store old.rows → Leaves new
+  ends_all : (calls : List Call) (old new : ServerState S) → Called g old calls new → g.has_clean_disk new.store → StoreHolds g old.store old.rows → Leaves new
   ends_all [] old new same clean holds = subst Leaves (sym same) (old.rows, old.rows, holds.leaves)
   ends_all (call ∷ calls) old new c clean holds =
       ends_one old c.0 new call calls c.1 c.2 (clean_first calls c.0 new c.2 clean) holds (ends_all calls c.0 new c.2 clean)
@@ -426,9 +426,9 @@ module _ {S : Type 0} (g : Ghosts S) where
   ends config ports calls store left (inr n) clean = (n.unopened.clean clean, λ table stands. (table, table, n.unopened.left clean table stands))
 
   -- events with their history are calls, before those of the events after them
-  called_before : (done after : List Event) (list : List Handled) (fault : Option ServeFault) (old mid new : Keeping S)
+  called_before : (done after : List Event) (list : List Handled) (fault : Option ServeFault) (old mid new : ServerState S)
       → past.History (Steps g) old done list mid → Called g mid (calls_of after [] fault) new → Called g old (calls_of (done ++ after) list fault) new
-  called_before [] after [] fault old mid new same c = subst (λ (s : Keeping S). Called g s (calls_of after [] fault) new) same c
+  called_before [] after [] fault old mid new same c = subst (λ (s : ServerState S). Called g s (calls_of after [] fault) new) same c
   called_before (event ∷ done) after (handled ∷ list) fault old mid new h c = (h.0, h.1, called_before done after list fault h.0 mid new h.2 c)
   called_before [] after (handled ∷ list) fault old mid new h c = absurd h
   called_before (event ∷ done) after [] fault old mid new h c = absurd h
@@ -438,7 +438,7 @@ module _ {S : Type 0} (g : Ghosts S) where
   is_none (handled ∷ list) = false
 
   -- a history in which nothing was done
-  none_done : (done : List Event) (list : List Handled) (old mid : Keeping S) → list ≡ [] → past.History (Steps g) old done list mid → mid ≡ old
+  none_done : (done : List Event) (list : List Handled) (old mid : ServerState S) → list ≡ [] → past.History (Steps g) old done list mid → mid ≡ old
   unfolding is_none
   none_done [] [] old mid none h = h
   none_done (event ∷ done) (handled ∷ list) old mid none h = absurd (false≢true (ap is_none none))
@@ -446,7 +446,7 @@ module _ {S : Type 0} (g : Ghosts S) where
   none_done (event ∷ done) [] old mid none h = absurd h
 
   -- how a run ends, as calls after its history
-  halted : (done after : List Event) (list : List Handled) (fault : Option ServeFault) (old mid new : Keeping S)
+  halted : (done after : List Event) (list : List Handled) (fault : Option ServeFault) (old mid new : ServerState S)
       → past.History (Steps g) old done list mid → past.Halts (Refuses g) fault after list mid new
       → Called g old (calls_of (done ++ after) list fault) new ⊎ past.NoMemory faults.Memory list old new
   halted done [] list None old mid new h halts = inl (called_before done [] list None old mid new h halts)

@@ -16,9 +16,9 @@ use Rattle.kd_program.specs.Running.{ports_asked}
 use Rattle.kd_program.specs.Streams.{Streams}
 use Rattle.kd_program.specs.declared.host.Host.{Ghosts as Hosts}
 use Rattle.kd_commands.specs.declared.orders.Files.{Files}
-use Rattle.kd_program.specs.declared.serving.Work.{Work}
-use Rattle.kd_replay.specs.declared.ends.Sink.{Ghosts as Sinks}
-use Rattle.kd_replay.specs.declared.link.Link.{Ghosts as Links}
+use Rattle.kd_commands.specs.declared.orders.Work.{Work}
+use Rattle.kd_loops.specs.declared.ends.Sink.{Ghosts as Sinks}
+use Rattle.kd_loops.specs.declared.link.Link.{Ghosts as Links}
 use Rattle.kd_rows.specs.declared.row.Row.{Row}
 use Rattle.kd_laws.specs.Openings.{AreCallsOf, CommandsAreOpenings}
 use Rattle.kd_laws.specs.Lives.{Call, IsDone, Life, LifeTo, Opening, OpeningsAreHistories, OpeningsEnd, WasHistory}

@@ -7,21 +7,21 @@ use Rattle.kd_event.specs.declared.event.Handled.{Handled}
 use Rattle.kd_keeps.specs.declared.keeps.Keeps.{Ghosts}
 use Rattle.kd_laws.specs.Lives.{Call, Called}
 use Rattle.kd_laws.specs.Lives.Call.{one, batch}
-use Rattle.kd_replay.specs.Ahead.{clocks_asked}
-use Rattle.kd_replay.specs.Arriving.{Arrival, event_of}
-use Rattle.kd_replay.specs.Lines.{IsEventLine, lines_of}
-use Rattle.kd_replay.specs.Recording.{record_line}
-use Rattle.kd_replay.specs.Replay.{HasReplayed}
-use Rattle.kd_replay.specs.Serving.{Answered, Batch, ServesTo, Traffic, events_in, gathering, handled_in, record_of, text_of, trace_of}
-use Rattle.kd_replay.specs.Text.{line_of}
-use Rattle.kd_replay.specs.Trace.{Grows}
-use Rattle.kd_replay.specs.declared.clocks.Clocks.{Clocks}
-use Rattle.kd_replay.specs.declared.fault.LoopFault.{LoopFault}
-use Rattle.kd_replay.specs.declared.fault.ReplayFault.{ReplayFault}
-use Rattle.kd_replay.specs.declared.fault.ServeFault.{ServeFault}
-use Rattle.kd_replay.specs.declared.happening.Happening.{Happening}
+use Rattle.kd_loops.specs.Ahead.{clocks_asked}
+use Rattle.kd_loops.specs.Arriving.{Arrival, event_of}
+use Rattle.kd_loops.specs.Lines.{IsEventLine, lines_of}
+use Rattle.kd_loops.specs.Recording.{record_line}
+use Rattle.kd_loops.specs.Replay.{HasReplayed}
+use Rattle.kd_loops.specs.Serving.{Answered, Batch, ServesTo, Traffic, events_in, gathering, handled_in, record_of, text_of, trace_of}
+use Rattle.kd_loops.specs.Text.{line_of}
+use Rattle.kd_loops.specs.Trace.{Grows}
+use Rattle.kd_loops.specs.declared.clocks.Clocks.{Clocks}
+use Rattle.kd_loops.specs.declared.fault.LoopFault.{LoopFault}
+use Rattle.kd_loops.specs.declared.fault.ReplayFault.{ReplayFault}
+use Rattle.kd_loops.specs.declared.fault.ServeFault.{ServeFault}
+use Rattle.kd_loops.specs.declared.happening.Happening.{Happening}
 use Rattle.kd_server.specs.Batch.{Batched}
-use Rattle.kd_server.specs.Keeping.{Keeping, Refuses, Steps, latest_in}
+use Rattle.kd_server.specs.Server.{ServerState, Refuses, Steps, latest_in}
 
 -- calls of `handle_all`, one for each of these batches, in their order. Each handles all events of
 -- its batch, and what it returns is handed over. Only the last may end with a fault, or return
@@ -76,7 +76,7 @@ pub record IsTrafficOf (calls : List Call) (before after : Traffic) : Type 0 whe
 -- the traffic, however serving ends
 abbrev pub ServingIsCalls : {S : Type 0} → Ghosts S → Type 0
 ServingIsCalls {S} g =
-    (limit : Option ℕ) (result : Result Unit LoopFault) (count : ℕ) (old new : Keeping S)
+    (limit : Option ℕ) (result : Result Unit LoopFault) (count : ℕ) (old new : ServerState S)
     (before after : Traffic)
     → ServesTo limit latest_in (Batched g) result count old new before after
     → (calls : List Call) × Called g old calls new × IsTrafficOf calls before after
@@ -106,7 +106,7 @@ IsReplayOf calls input old new =
 -- ends
 abbrev pub ReplayingIsCalls : {S : Type 0} → Ghosts S → Type 0
 ReplayingIsCalls {S} g =
-    (failed : Bool) (result : Result ℕ ReplayFault) (old new : Keeping S)
+    (failed : Bool) (result : Result ℕ ReplayFault) (old new : ServerState S)
     (input left before after : Option (List ℕ))
     → HasReplayed (Steps g) (Refuses g) (failed ≡ true) result old new input left before after
     → (calls : List Call) × Called g old calls new × IsReplayOf calls input before after

@@ -13,12 +13,12 @@ use Rattle.kd_event.specs.declared.reason.Reason.TheVariants as reasons
 use Rattle.kd_keeps.specs.declared.keeps.Keeps.{Ghosts}
 use Rattle.kd_lease.specs.Plan.{Outcome}
 use Rattle.kd_options.specs.Message.{Seen, Reads}
-use Rattle.kd_replay.specs.History.{NoMemory, Runs}
-use Rattle.kd_replay.specs.declared.fault.ServeFault.{ServeFault}
-use Rattle.kd_replay.specs.declared.fault.ServeFault.TheVariants as faults
+use Rattle.kd_loops.specs.History.{NoMemory, Runs}
+use Rattle.kd_loops.specs.declared.fault.ServeFault.{ServeFault}
+use Rattle.kd_loops.specs.declared.fault.ServeFault.TheVariants as faults
 use Rattle.kd_rows.specs.declared.row.Row.{Row}
 use Rattle.kd_server.specs.Batch.{Batched}
-use Rattle.kd_server.specs.Keeping.{IsUnopened, Keeping, Opens, Refuses, Steps}
+use Rattle.kd_server.specs.Server.{IsUnopened, ServerState, Opens, Refuses, Steps}
 use Rattle.kd_laws.specs.NoOverlap.{AreOfOne, HistoryTo, LeaseHistory, LeaseStep, now_of}
 use Rattle.kd_server.specs.Step.{Responds}
 
@@ -38,22 +38,22 @@ pub record Opening : Type 0 where
 
 module _ {S : Type 0} (g : Ghosts S) where
   -- what the contracts say of a call
-  abbrev pub CallAnswers : Keeping S → Call → Keeping S → Type 0
+  abbrev pub CallAnswers : ServerState S → Call → ServerState S → Type 0
   CallAnswers old (one event (Ok handled)) new = Steps g old event handled new
   CallAnswers old (one event (Err fault)) new = Refuses g old event fault new
   CallAnswers old (batch events list fault) new = Batched g old events list fault new
 
   -- calls in sequence, each on the server that the previous one left
-  abbrev pub Called : Keeping S → List Call → Keeping S → Type 0
+  abbrev pub Called : ServerState S → List Call → ServerState S → Type 0
   Called old [] new = new ≡ old
   Called old (call ∷ calls) new =
-      (mid : Keeping S) × CallAnswers old call mid × Called mid calls new
+      (mid : ServerState S) × CallAnswers old call mid × Called mid calls new
 
   -- a server is opened over a store and called, and this store is left
   pub record IsRun (config : Configuration) (ports : Ports) (calls : List Call)
       (store left : S) : Type 0 where
-    pub first : Keeping S
-    pub last : Keeping S
+    pub first : ServerState S
+    pub last : ServerState S
     pub opens : Opens g ports config store first
     pub called : Called first calls last
     pub left_is : left ≡ last.store
@@ -97,7 +97,7 @@ calls_of (event ∷ events) [] (Some fault) = one event (Err fault) ∷ []
 -- every run is such a sequence of calls of `handle`, or memory ran out before the first
 abbrev pub RunsAreCalls : {S : Type 0} → Ghosts S → Type 0
 RunsAreCalls {S} g =
-    (events : List Event) (list : List Handled) (fault : Option ServeFault) (old new : Keeping S)
+    (events : List Event) (list : List Handled) (fault : Option ServeFault) (old new : ServerState S)
     → Runs (Steps g) (Refuses g) events list fault old new
     → Called g old (calls_of events list fault) new ⊎ NoMemory faults.Memory list old new
 

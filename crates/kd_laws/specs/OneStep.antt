@@ -6,9 +6,9 @@ use Rattle.kd_event.specs.declared.event.Event.{Event}
 use Rattle.kd_event.specs.declared.event.Handled.{Handled}
 use Rattle.kd_event.specs.declared.ports.Ports.{Ports}
 use Rattle.kd_keeps.specs.declared.keeps.Keeps.{Ghosts}
-use Rattle.kd_replay.specs.History as past
+use Rattle.kd_loops.specs.History as past
 use Rattle.kd_rows.specs.declared.row.Row.{Row}
-use Rattle.kd_server.specs.Keeping.{Keeping, Steps, StepsTo}
+use Rattle.kd_server.specs.Server.{ServerState, Steps, StepsTo}
 
 -- an event has one answer, and leaves one table
 abbrev pub OneStep : Type 0
@@ -18,7 +18,7 @@ OneStep =
     → StepsTo config ports rows event other its → (handled ≡ other) × (new ≡ its)
 
 -- two servers are alike, whatever their stores: they have the same ports, configuration and rows
-pub record StandAlike {S T : Type 0} (one : Keeping S) (other : Keeping T) : Type 0 where
+pub record StandAlike {S T : Type 0} (one : ServerState S) (other : ServerState T) : Type 0 where
   pub ports : one.ports ≡ other.ports
   pub config : one.config ≡ other.config
   pub rows : one.rows ≡ other.rows
@@ -27,6 +27,6 @@ pub record StandAlike {S T : Type 0} (one : Keeping S) (other : Keeping T) : Typ
 -- afterwards
 abbrev pub OneHistory : {S T : Type 0} → Ghosts S → Ghosts T → Type 0
 OneHistory {S} {T} g h =
-    (events : List Event) (list others : List Handled) (old new : Keeping S) (its last : Keeping T)
+    (events : List Event) (list others : List Handled) (old new : ServerState S) (its last : ServerState T)
     → StandAlike old its → past.History (Steps g) old events list new
     → past.History (Steps h) its events others last → (list ≡ others) × StandAlike new last

@@ -8,12 +8,12 @@ use Rattle.kd_laws.specs.Lives.{Call, IsDone}
 use Rattle.kd_program.specs.Running.{GivesJournal, HasNoJournal, HasNoLine, HasNoSocket, IsNotServed, ServesWork, ports_asked}
 use Rattle.kd_program.specs.Streams.{At, With}
 use Rattle.kd_program.specs.declared.host.Host.{Ghosts as Hosts}
-use Rattle.kd_program.specs.declared.serving.Service.{Service}
-use Rattle.kd_program.specs.declared.serving.Work.{Work}
-use Rattle.kd_program.specs.declared.serving.Work.TheVariants as works
-use Rattle.kd_replay.specs.Serving.{contents_in}
-use Rattle.kd_replay.specs.declared.ends.Sink.{Ghosts as Sinks}
-use Rattle.kd_replay.specs.declared.link.Link.{Ghosts as Links}
+use Rattle.kd_commands.specs.declared.orders.Service.{Service}
+use Rattle.kd_commands.specs.declared.orders.Work.{Work}
+use Rattle.kd_commands.specs.declared.orders.Work.TheVariants as works
+use Rattle.kd_loops.specs.Serving.{contents_in}
+use Rattle.kd_loops.specs.declared.ends.Sink.{Ghosts as Sinks}
+use Rattle.kd_loops.specs.declared.link.Link.{Ghosts as Links}
 
 -- over a host, its sockets and its records
 module _ {H N U L R : Type 0} (h : Hosts H N U L R) (l : Links L) (r : Sinks R) where
@@ -59,7 +59,7 @@ module _ {H N U L R S : Type 0} (h : Hosts H N U L R) (l : Links L) (r : Sinks R
       IsReplayOf calls before.streams.input.bytes before.streams.output.bytes
       after.streams.output.bytes
   AreCallsOfWork (works.Explain number) calls before after status = calls ≡ []
-  AreCallsOfWork (works.Show view) calls before after status = calls ≡ []
+  AreCallsOfWork (works.Show view at live) calls before after status = calls ≡ []
   AreCallsOfWork (works.Serve service) calls before after status =
       AreCallsOfService h l r service calls before after
       ⊎ ((calls ≡ []) × HasNotBegun service before after status)

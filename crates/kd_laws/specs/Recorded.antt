@@ -7,20 +7,20 @@ use Rattle.kd_config.specs.Configuration.{Configuration}
 use Rattle.kd_event.specs.declared.event.Event.{Event}
 use Rattle.kd_event.specs.declared.ports.Ports.{Ports}
 use Rattle.kd_keeps.specs.declared.keeps.Keeps.{Ghosts}
-use Rattle.kd_replay.specs.Arriving.{IsRecordable}
-use Rattle.kd_replay.specs.History as past
-use Rattle.kd_replay.specs.Lines.{lines_of}
-use Rattle.kd_replay.specs.Recording.{record_line}
-use Rattle.kd_replay.specs.Replay.{Did, Stops}
-use Rattle.kd_replay.specs.Serving.{Answered, ServesTo, Traffic, text_of}
-use Rattle.kd_replay.specs.Text.{line_of}
-use Rattle.kd_replay.specs.declared.fault.LoopFault.{LoopFault}
-use Rattle.kd_replay.specs.declared.fault.LoopFault.TheVariants as faults
-use Rattle.kd_replay.specs.declared.fault.ReplayFault.{ReplayFault}
-use Rattle.kd_replay.specs.declared.fault.ReplayFault.TheVariants as replaying
+use Rattle.kd_loops.specs.Arriving.{IsRecordable}
+use Rattle.kd_loops.specs.History as past
+use Rattle.kd_loops.specs.Lines.{lines_of}
+use Rattle.kd_loops.specs.Recording.{record_line}
+use Rattle.kd_loops.specs.Replay.{Did, Stops}
+use Rattle.kd_loops.specs.Serving.{Answered, ServesTo, Traffic, text_of}
+use Rattle.kd_loops.specs.Text.{line_of}
+use Rattle.kd_loops.specs.declared.fault.LoopFault.{LoopFault}
+use Rattle.kd_loops.specs.declared.fault.LoopFault.TheVariants as faults
+use Rattle.kd_loops.specs.declared.fault.ReplayFault.{ReplayFault}
+use Rattle.kd_loops.specs.declared.fault.ReplayFault.TheVariants as replaying
 use Rattle.kd_rows.specs.declared.row.Row.{Row}
 use Rattle.kd_server.specs.Batch.{Batched}
-use Rattle.kd_server.specs.Keeping.{Keeping, Refuses, Steps, StepsTo, latest_in}
+use Rattle.kd_server.specs.Server.{ServerState, Refuses, Steps, StepsTo, latest_in}
 use Rattle.kd_laws.specs.OneStep.{StandAlike}
 
 -- a file whose bytes are known has grown by these bytes
@@ -47,7 +47,7 @@ pub record Session : Type 0 where
 
 -- a server over any store that keeps leases serves a session, which ends between two batches
 pub record ServesSession {S : Type 0} (g : Ghosts S) (session : Session)
-    (old new : Keeping S) : Type 0 where
+    (old new : ServerState S) : Type 0 where
   pub limit : Option ℕ
   pub result : Result Unit LoopFault
   pub count : ℕ
@@ -79,7 +79,7 @@ pub record GrowsByLog (log old new : List ℕ) : Type 0 where
 -- alike with the one that ends the session
 abbrev pub ReplayRepeatsSession : {S T : Type 0} → Ghosts S → Ghosts T → Type 0
 ReplayRepeatsSession {S} {T} g h =
-    (session : Session) (old new : Keeping S) (its last : Keeping T) (text out : List ℕ)
+    (session : Session) (old new : ServerState S) (its last : ServerState T) (text out : List ℕ)
     → ServesSession g session old new → StandAlike old its
     → Did (Steps h) (lines_of session.recorded) its last text out
     → GrowsByLog session.logged text out × StandAlike new last
@@ -103,7 +103,7 @@ module _ (config : Configuration) (ports : Ports) where
       (session.begins ≡ rows) × WasSession session × SessionsFollow session.ends sessions last
 
   -- a server has this configuration, these ports and these rows
-  pub record IsServerOver {S : Type 0} (rows : List Row) (server : Keeping S) : Type 0 where
+  pub record IsServerOver {S : Type 0} (rows : List Row) (server : ServerState S) : Type 0 where
     pub ports_are : server.ports ≡ ports
     pub config_is : server.config ≡ config
     pub rows_are : server.rows ≡ rows
@@ -111,7 +111,7 @@ module _ (config : Configuration) (ports : Ports) where
 -- what a server serves is such a session, under its configuration and its ports, which it keeps
 abbrev pub SessionsAreHistories : {S : Type 0} → Ghosts S → Type 0
 SessionsAreHistories {S} g =
-    (session : Session) (old new : Keeping S) → ServesSession g session old new
+    (session : Session) (old new : ServerState S) → ServesSession g session old new
     → WasSession old.config old.ports session
     × IsServerOver old.config old.ports session.ends new
 
@@ -120,7 +120,7 @@ SessionsAreHistories {S} g =
 abbrev pub ReplayRepeatsSessions : {T : Type 0} → Ghosts T → Type 0
 ReplayRepeatsSessions {T} h =
     (config : Configuration) (ports : Ports) (rows last : List Row) (sessions : List Session)
-    (its new : Keeping T) (text out : List ℕ)
+    (its new : ServerState T) (text out : List ℕ)
     → SessionsFollow config ports rows sessions last → IsServerOver config ports rows its
     → Did (Steps h) (lines_of (flat_map (λ s. s.recorded) sessions)) its new text out
     → GrowsByLog (flat_map (λ s. s.logged) sessions) text out
@@ -139,7 +139,7 @@ pub record GrowsByPrefix (log old new : List ℕ) : Type 0 where
 abbrev pub ReplayStopsOnTheWay : {T : Type 0} → Ghosts T → Type 0
 ReplayStopsOnTheWay {T} h =
     (config : Configuration) (ports : Ports) (rows last : List Row) (sessions : List Session)
-    (failed : Bool) (fault : ReplayFault) (its new : Keeping T) (text out : List ℕ)
+    (failed : Bool) (fault : ReplayFault) (its new : ServerState T) (text out : List ℕ)
     → SessionsFollow config ports rows sessions last → IsServerOver config ports rows its
     → Stops (Steps h) (Refuses h) (failed ≡ true) fault
     (lines_of (flat_map (λ s. s.recorded) sessions)) its new text out

@@ -330,16 +330,6 @@ reached_ended q sought state first last r reached not_it live ended a = by (soug
       state_is : s.row.state ≡ state
       state_is = same_state s.row.state state (and_parts (is_in_state state s.row) _ (and_parts (belongs_to q.client s.row) _ s.of).1).0
 
--- nothing is sought in a state that no sought row can be in
-pub not_in_state : (q : Asking) (sought : Sought) (state : State) (first last : ℕ) → state_sought sought state ≡ false → IsNewest q.rows (sought_in q sought state first last) None
-not_in_state q sought state first last out a = by (sought_in q sought state first last a) refl where
-  by : (t : Bool) → sought_in q sought state first last a ≡ t → sought_in q sought state first last a ≡ false
-  by false e = e
-  by true e =
-      let s = seen q sought state first last a e in
-      let is : s.row.state ≡ state = same_state s.row.state state (and_parts (is_in_state state s.row) _ (and_parts (belongs_to q.client s.row) _ s.of).1).0 in
-      absurd (false≢true (sym out ∙ (sym (ap (state_sought sought) is) ∙ in_states q sought a s.row s.there s.is)))
-
 -- the sought addresses that are reserved for the client or are in the first n pools
 abbrev pub sought_up_to : Asking → Sought → Choosing → ℕ → ℕ → Bool
 sought_up_to q sought choosing n a = sought_at q sought a && (same_address choosing.own a || list_any (λ pool. has pool.range a) (take n choosing.subnet.now.pools))

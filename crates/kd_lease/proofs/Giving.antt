@@ -31,19 +31,6 @@ more_classes classes names i class at =
     ap (λ cs. class_options cs names) (take_more classes i class within ∙ ap (λ c. take i classes ++ c ∷ []) (get_or_from_slice_get classes i class class at))
     ∙ class_options-append (take i classes) (class ∷ []) names
 
-pub more_codes : (f : ℕ → List ReplyOption) (bs : List ReplyOption) (code : ℕ) → 1 ≤ code
-    → (bs ++ flat_map f (range_with_len 1 (code - 1))) ++ f code ≡ bs ++ flat_map f (range_with_len 1 (code + 1 - 1))
-more_codes f bs code some =
-    let same : ℕ → ℕ = λ n. n in
-    let front = range_with_len 1 (code - 1) in
-    let last : 1 + (code - 1) ≡ code = omega arith in
-    let next : code - 1 + 1 ≡ code + 1 - 1 = omega arith in
-    ap (λ given. (bs ++ given) ++ f code) (sym (flat_map-map f same front))
-    ∙ flat_map_more f bs (map same front) code
-    ∙ ap (λ codes. bs ++ flat_map f codes) (sym (map-range_with_len_more same 1 (code - 1) code last))
-    ∙ ap (λ given. bs ++ given) (flat_map-map f same (range_with_len 1 (code - 1 + 1)))
-    ∙ ap (λ n. bs ++ flat_map f (range_with_len 1 n)) next
-
 -- the options of a configuration, each list as it is found
 pub all_given : (config : Configuration) (subnet : Subnet) (names : List (List ℕ)) (address : ℕ) (pool own classes all : List OptionData) (mask : List ℕ)
     → pool ≡ options_of_pool subnet.pools address → own ≡ subnet.options → classes ≡ class_options config.classes names → all ≡ config.options → mask ≡ prefix_mask subnet.prefix

@@ -110,9 +110,6 @@ sought_is_mine q (seeks.Own choosing) a h = held_is_mine q a (both (held_at q a)
 sought_is_mine q (seeks.Past choosing) a h = had_is_mine q a (both (past_at q a) (fitting_with choosing.now a) h)
 sought_is_mine q seeks.Offer a h = such_is_mine q (λ row. live_row q.now row && (belongs_to q.client row && offered_state row.state)) (λ row g. mine q row (live_row q.now row) (offered_state row.state) g) (row_at q.rows a) h
 
-pub at_start : (rows : List Row) (such : ℕ → Bool) (xs : List ℕ) → IsNewestOf rows such xs 0 None
-at_start rows such xs k less = absurd (omega arith)
-
 -- the step of the code is that of the lemmas
 pub better_is : (q : Asking) (sought : Sought) (best : Option ℕ) (a : ℕ) → newer_of q sought best a ≡ better_of q.rows (sought_at q sought) best a
 better_is q sought None a = refl

@@ -57,9 +57,6 @@ has_inside range a low high = grind (arith, nat_tests)
 abbrev pub NoneIn : Asking → Subnet → Bool → ℕ → Type 0
 NoneIn q s new n = (a : ℕ) → pool_place s.pools a < n → is_open q s new a ≡ false
 
-pub none_in : (q : Asking) (s : Subnet) (new : Bool) → NoneIn q s new 0
-none_in q s new a less = absurd (omega arith)
-
 pub next_pool : (q : Asking) (s : Subnet) (new : Bool) (n : ℕ) (pool : Pool) → n < length s.pools → pool ≡ get_or s.pools n pool → NoneIn q s new n
     → IsLeastOpen q s new pool.range.first pool.range.last None → NoneIn q s new (n + 1)
 next_pool q s new n pool less is h none a before = ⊎_elim (λ l. h a l) (λ m. here (omega arith)) (cases_lt (pool_place s.pools a) n) where

@@ -1,7 +1,7 @@
 ghost use Rattle.std.specs.Prelude.{◌≡◌};
 ghost use Rattle.std.specs.Option.{option_copied};
 ghost use Rattle.kd_rows.specs.Table.{belongs_to};
-ghost use Rattle.kd_lease.specs.Choice.{address_of_value, fitting_for, pooled, same_address, free_for, held_row, holding_state, own_row, live_row, past_row, usable, freed_by, requested_address};
+ghost use Rattle.kd_lease.specs.Choice.{address_of_value, fitting_for, pooled, same_address, free_for, held_row, holding_state, own_row, past_row, usable, freed_by, requested_address};
 ghost use Rattle.kd_lease.specs.Rules.{asking};
 ghost use Rattle.kd_lease.specs.Seeking.{common_in, fitting_with};
 
@@ -81,21 +81,21 @@ pub fn is_free(question: &Question<'_>, address: u32) -> bool
 fn leaves_free(question: &Question<'_>, row: &Row) -> bool
     ensures { result ≡ freed_by (asking question.now) row.now }
 {
-    !is_live(question.moment, row) || is_its(question, row)
+    !row.is_live(question.moment) || is_its(question, row)
 }
 
 // Reports whether the client holds a row: it is its own, has not ended, and is offered or bound.
 pub(crate) fn is_held_by(question: &Question<'_>, row: &Row) -> bool
     ensures { result ≡ held_row (asking question.now) row.now }
 {
-    is_live(question.moment, row) && is_its(question, row)
+    row.is_live(question.moment) && is_its(question, row)
 }
 
 // Reports whether a row is the client's own and has ended.
 pub(crate) fn is_past(question: &Question<'_>, row: &Row) -> bool
     ensures { result ≡ past_row (asking question.now) row.now }
 {
-    !is_live(question.moment, row) && is_of(question.client, row)
+    !row.is_live(question.moment) && is_of(question.client, row)
 }
 
 // Reports whether a row is the client's own and offered or bound.
@@ -110,13 +110,6 @@ pub(crate) fn is_of(client: &[u8], row: &Row) -> bool
     ensures { result ≡ belongs_to client.now row.now }
 {
     row.client.as_slice() == client
-}
-
-// Reports whether a row has not ended yet.
-pub(crate) fn is_live(now: u64, row: &Row) -> bool
-    ensures { result ≡ live_row now row.now }
-{
-    now < row.ends
 }
 
 // Reports whether a client holds an address that is in this state.

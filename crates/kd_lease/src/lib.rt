@@ -63,5 +63,5 @@ pub use rule::{Check, Ending, Line, Rule};
 pub use seeking::{is_client_at, is_held_at, knows_client};
 pub use sending::destination;
 pub use server::{renewed_of, server_of};
-pub use subnet::{place_of, pool_options, subnet_of};
+pub use subnet::{place_of, pool_options, serves, subnet_of};
 pub use verdict::{Decision, Verdict};

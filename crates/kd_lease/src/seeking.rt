@@ -9,7 +9,7 @@ ghost use Rattle.kd_rows.specs.Table.{row_at};
 
 use crate::aging::newest;
 use crate::choosing::Choosing;
-use crate::fitting::{fits_with, is_held_by, is_live, is_of, is_past};
+use crate::fitting::{fits_with, is_held_by, is_of, is_past};
 use crate::question::Question;
 use kd_config::{Prefix, Subnet};
 use kd_rows::{Rows, State};
@@ -211,7 +211,7 @@ pub(crate) fn is_leased(question: &Question<'_>, address: u32) -> bool
 {
     match question.rows.get(address) {
         Some(row) => {
-            is_live(question.moment, row) && (is_of(question.client, row) && is_bound(row.state))
+            row.is_live(question.moment) && (is_of(question.client, row) && is_bound(row.state))
         }
         None => false,
     }
@@ -224,7 +224,7 @@ fn is_offer(question: &Question<'_>, address: u32) -> bool
 {
     match question.rows.get(address) {
         Some(row) => {
-            is_live(question.moment, row) && (is_of(question.client, row) && is_offered(row.state))
+            row.is_live(question.moment) && (is_of(question.client, row) && is_offered(row.state))
         }
         None => false,
     }

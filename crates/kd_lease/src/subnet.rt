@@ -36,8 +36,9 @@ pub fn place_of(server: u32, header: &Header) -> u32
     }
 }
 
-// Reports whether the subnet serves this place and a client in the classes with these names.
-fn serves(place: u32, names: &Held, subnet: &Subnet) -> bool
+/// Reports whether the subnet serves a place, an address in host order, and a client in the classes
+/// with these names: its prefix contains the place, and the class that it requires, if any, is held.
+pub fn serves(place: u32, names: &Held, subnet: &Subnet) -> bool
     ensures { result ≡ served_by place names.now subnet.now }
 {
     subnet.prefix.contains(place) && admits(subnet, names)

@@ -3,7 +3,6 @@ ghost use Rattle.std.specs.Option.{option_copied};
 ghost use Rattle.kd_lease.specs.Rules.{asking};
 ghost use Rattle.kd_lease.specs.Seeking.{IsNextUntaken, untaken};
 
-use crate::fitting::is_live;
 use crate::question::Question;
 use kd_rows::Row;
 
@@ -12,7 +11,7 @@ pub(crate) fn is_untaken(question: &Question<'_>, new: bool, address: u32) -> bo
     ensures { result ≡ untaken (asking question.now) new address }
 {
     match question.rows.get(address) {
-        Some(row) => !new && !is_live(question.moment, row),
+        Some(row) => !new && !row.is_live(question.moment),
         None => new,
     }
 }

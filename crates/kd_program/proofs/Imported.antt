@@ -1,12 +1,12 @@
 -- How an import is refused.
 use Rattle.std.proofs.Common.{◌≡◌, ◌⊎◌, ℕ, List, inl, inr, refl}
-use Rattle.kd_import.specs.Import.{IsImportFault, import_fault_number}
-use Rattle.kd_import.specs.declared.fault.ImportFault.{ImportFault}
-use Rattle.kd_import.specs.declared.fault.ImportFault.TheVariants as lines
+use Rattle.kd_log.specs.Import.{IsImportFault, import_fault_number}
+use Rattle.kd_log.specs.declared.leases.fault.ImportFault.{ImportFault}
+use Rattle.kd_log.specs.declared.leases.fault.ImportFault.TheVariants as lines
 use Rattle.kd_io.specs.Faults.{input_fault_number}
 use Rattle.kd_io.specs.declared.files.InputFault.{InputFault}
 use Rattle.kd_io.specs.declared.files.InputFault.TheVariants as inputs
-use Rattle.kd_print.specs.Status.{status_of}
+use Rattle.kd_answers.specs.Status.{status_of}
 use Rattle.kd_program.specs.Importing.{TellsBadLine}
 use Rattle.kd_program.specs.Streams.{Stream, TellsWith}
 use Rattle.kd_program.proofs.Told.{told_own}

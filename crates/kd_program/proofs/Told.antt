@@ -1,6 +1,6 @@
 -- Faults that are reported, with equal numbers and statuses.
 use Rattle.std.proofs.Common.{◌≡◌, ℕ, subst}
-use Rattle.kd_print.specs.Status.{status_of}
+use Rattle.kd_answers.specs.Status.{status_of}
 use Rattle.kd_program.specs.Streams.{Stream, TellsWith}
 
 -- with equal numbers and statuses

@@ -15,7 +15,7 @@ use Rattle.kd_config.specs.declared.subnet.Subnet.{Subnet}
 use Rattle.kd_io.specs.declared.start.StartFault.{StartFault}
 use Rattle.kd_names.specs.Values.{sign_text}
 use Rattle.kd_program.specs.Banner.{subnet_addresses}
-use Rattle.kd_replay.specs.Text.{address_text, prefix_text}
+use Rattle.kd_text.specs.Text.{address_text, prefix_text}
 use Rattle.kd_token.specs.File.{Code}
 use Rattle.kd_token.specs.declared.token.Token.{Token}
 use Rattle.kd_token.specs.declared.token.Token.TheVariants as tokens

@@ -9,9 +9,9 @@ use Rattle.kd_config.specs.declared.pool.Pool.{Pool}
 use Rattle.kd_config.specs.declared.subnet.Subnet.{Subnet}
 use Rattle.kd_names.specs.Values.{sign_text}
 use Rattle.kd_program.specs.declared.banner.Sizes.{Sizes}
-use Rattle.kd_replay.specs.Text.{address_text}
 use Rattle.kd_rows.specs.Table.{latest_of}
 use Rattle.kd_rows.specs.declared.row.Row.{Row}
+use Rattle.kd_text.specs.Text.{address_text}
 
 -- the three digits of a number below a thousand
 abbrev pub three_digits : ℕ → List ℕ

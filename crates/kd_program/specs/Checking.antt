@@ -12,15 +12,15 @@ use Rattle.kd_io.specs.declared.look.LookFault.TheVariants as looks
 use Rattle.kd_io.specs.declared.start.StartFault.{StartFault}
 use Rattle.kd_program.specs.Report.{IsCheckReport}
 use Rattle.kd_program.specs.Streams.{At, ShowsOrBreaks, Starves}
-use Rattle.kd_program.specs.declared.checking.Place.{Place}
+use Rattle.kd_commands.specs.declared.orders.Place.{Place}
 use Rattle.kd_program.specs.declared.checking.StoreFinding.{StoreFinding}
 use Rattle.kd_program.specs.declared.checking.StoreFinding.TheVariants as findings
 use Rattle.kd_program.specs.declared.host.Host.{Ghosts as Hosts}
 use Rattle.kd_commands.specs.declared.orders.Files.{Files}
-use Rattle.kd_replay.specs.Ahead.{is_behind}
+use Rattle.kd_loops.specs.Ahead.{is_behind}
 use Rattle.kd_rows.specs.Table.{latest_of}
 use Rattle.kd_rows.specs.declared.row.Row.{Row}
-use Rattle.kd_print.specs.Status.{status_of}
+use Rattle.kd_answers.specs.Status.{status_of}
 
 -- the exit status of a check: that of the first fault that was found
 abbrev pub check_status : List (Option ℕ) → ℕ
@@ -110,7 +110,7 @@ module _ {H N U L R : Type 0} (h : Hosts H N U L R) where
     pub store_found : FindsStore (option_map string_bytes files.store) place.max_ahead asked
         after.host store
     pub socket : Result Bool SocketTrouble
-    pub socket_found : h.reaches after.host place.address place.port socket
+    pub socket_found : h.reaches after.host place.bind place.port socket
     pub shown : ((report : List ℕ)
         × IsCheckReport (option_map string_bytes files.config) config
         (option_map string_bytes files.store) store place socket report

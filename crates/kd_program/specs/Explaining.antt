@@ -4,13 +4,13 @@ use Rattle.hex.specs.Hex.{decode_of}
 use Rattle.hex.specs.declared.FromHexError.{FromHexError}
 use Rattle.kd_config.specs.Configuration.{Configuration}
 use Rattle.kd_program.specs.Streams.{ShowsOrBreaks, Starves, Streams, Tells, TellsWith}
-use Rattle.kd_replay.specs.Faults.{replay_fault_number, serve_fault_number}
-use Rattle.kd_replay.specs.declared.fault.ReplayFault.{ReplayFault}
-use Rattle.kd_replay.specs.declared.fault.ServeFault.{ServeFault}
+use Rattle.kd_loops.specs.Faults.{replay_fault_number, serve_fault_number}
+use Rattle.kd_loops.specs.declared.fault.ReplayFault.{ReplayFault}
+use Rattle.kd_loops.specs.declared.fault.ServeFault.{ServeFault}
 use Rattle.kd_rows.specs.declared.row.Row.{Row}
 use Rattle.kd_server.specs.Leases.{IsNoList}
 use Rattle.kd_server.specs.Trial.{Trying}
-use Rattle.kd_print.specs.Status.{replay_status_of}
+use Rattle.kd_answers.specs.Status.{replay_status_of}
 use Rattle.kd_why.specs.Inquiring.{IsExplainedAt, IsNotExplained}
 use Rattle.kd_why.specs.Saying.{ExplainsEvent}
 

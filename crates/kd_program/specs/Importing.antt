@@ -1,14 +1,14 @@
 -- What an import does: the table that the lines on standard input stand for is put into a store
 -- without leases, in one commit.
 use Rattle.std.specs.Prelude.{◌≡◌, ◌≢◌, ◌⊎◌, ◌<◌, ℕ, true, List, [], Some, Result, Ok, Err, length}
-use Rattle.kd_import.specs.Import.{IsBadLine, IsTable}
 use Rattle.kd_keeps.specs.Fault.{store_fault_number}
 use Rattle.kd_keeps.specs.Moves.{MovesTable}
 use Rattle.kd_keeps.specs.declared.fault.StoreFault.{StoreFault}
 use Rattle.kd_keeps.specs.declared.keeps.Keeps.{Ghosts}
+use Rattle.kd_log.specs.Import.{IsBadLine, IsTable}
 use Rattle.kd_program.specs.Streams.{Stream, Streams, Tells, TellsWith}
 use Rattle.kd_rows.specs.declared.row.Row.{Row}
-use Rattle.kd_print.specs.Status.{status_of}
+use Rattle.kd_answers.specs.Status.{status_of}
 
 -- the largest input in bytes that is imported: 256 MiB
 abbrev pub most_imported : ℕ

@@ -13,7 +13,7 @@ use Rattle.kd_io.specs.declared.look.LookFault.TheVariants as looks
 use Rattle.kd_keeps.specs.declared.fault.StoreFault.TheVariants as stores
 use Rattle.kd_names.specs.Values.{sign_text}
 use Rattle.kd_program.specs.Banner.{place_text}
-use Rattle.kd_program.specs.declared.checking.Place.{Place}
+use Rattle.kd_commands.specs.declared.orders.Place.{Place}
 use Rattle.kd_program.specs.declared.checking.SeenRows.{SeenRows}
 use Rattle.kd_program.specs.declared.checking.StoreFinding.{StoreFinding}
 use Rattle.kd_program.specs.declared.checking.StoreFinding.TheVariants as findings
@@ -111,7 +111,7 @@ socket_text (Err trouble) = socket_trouble_words trouble ++ codes "\n"
 
 -- the lines about the socket at an address and a port
 unfoldable pub socket_lines : Place → Result Bool SocketTrouble → List ℕ
-socket_lines place answer = place_text place.address place.port ++ codes ": " ++ socket_text answer
+socket_lines place answer = place_text place.bind place.port ++ codes ": " ++ socket_text answer
 
 -- a report: lines about the configuration in a file, if one is named, those about the store at a
 -- path, if there is a path, and those about the socket, as a terminal may show them

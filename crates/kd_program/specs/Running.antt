@@ -1,17 +1,14 @@
 -- What the arguments of a command line do: what is written, and the exit status.
-use Rattle.std.specs.Prelude.{◌≡◌, ◌⊎◌, ◌++◌, ℕ, Bool, false, true, List, Option, Some, None, Result, Ok, Err, if◌then◌else◌, is_some, option_map, string_bytes, vec_items}
+use Rattle.std.specs.Prelude.{◌≡◌, ◌⊎◌, ◌++◌, ℕ, Bool, false, true, List, Option, Some, None, Result, Ok, Err, is_some, option_map, string_bytes, vec_items}
 use Rattle.std.specs.Result.{IsErrOf}
-use Rattle.kd_print.specs.Printed.{Answers}
-use Rattle.kd_print.specs.Status.{replay_status_of, serve_status_of}
-use Rattle.kd_print.specs.declared.printed.Printed.{Printed}
+use Rattle.kd_answers.specs.Printed.{Answers}
+use Rattle.kd_answers.specs.Status.{replay_status_of, serve_status_of}
+use Rattle.kd_answers.specs.declared.printed.Printed.{Printed}
 use Rattle.kd_config.specs.Configuration.{Configuration}
 use Rattle.kd_io.specs.Faults.{look_fault_number, start_fault_number}
-use Rattle.kd_io.specs.declared.look.LookFault.{LookFault}
-use Rattle.kd_io.specs.declared.start.StartFault.{StartFault}
 use Rattle.kd_event.specs.declared.ports.Ports.{Ports}
 use Rattle.kd_keeps.specs.Fault.{store_fault_number}
 use Rattle.kd_keeps.specs.Reading.{AreRead}
-use Rattle.kd_keeps.specs.declared.fault.StoreFault.{StoreFault}
 use Rattle.kd_keeps.specs.declared.keeps.Keeps.{Ghosts}
 use Rattle.kd_check.specs.declared.findings.StoreTrouble.{StoreTrouble}
 use Rattle.kd_commands.specs.Order.{AsksFor, HasFault, line_fault_number}
@@ -19,19 +16,23 @@ use Rattle.kd_commands.specs.declared.fault.LineFault.{LineFault}
 use Rattle.kd_commands.specs.declared.orders.Listening.{Listening}
 use Rattle.kd_commands.specs.declared.orders.Order.{Order}
 use Rattle.kd_commands.specs.declared.orders.Order.TheVariants as orders
-use Rattle.kd_replay.specs.Faults.{loop_fault_number, replay_fault_number, serve_fault_number}
-use Rattle.kd_replay.specs.Replay.{HasReplayed}
-use Rattle.kd_replay.specs.Serving.{ServesTo, Traffic, contents_in, failed_in}
-use Rattle.kd_replay.specs.declared.ends.EndFailed.{EndFailed}
-use Rattle.kd_replay.specs.declared.ends.Sink.{Ghosts as Sinks}
-use Rattle.kd_replay.specs.declared.fault.LoopFault.{LoopFault}
-use Rattle.kd_replay.specs.declared.fault.LoopFault.TheVariants as looping
-use Rattle.kd_replay.specs.declared.fault.ReplayFault.{ReplayFault}
-use Rattle.kd_replay.specs.declared.link.Link.{Ghosts as Links}
-use Rattle.kd_replay.specs.declared.fault.ServeFault.{ServeFault}
+use Rattle.kd_commands.specs.declared.orders.Service.{Service}
+use Rattle.kd_commands.specs.declared.orders.View.{View}
+use Rattle.kd_commands.specs.declared.orders.Work.{Work}
+use Rattle.kd_commands.specs.declared.orders.Work.TheVariants as works
+use Rattle.kd_loops.specs.Faults.{loop_fault_number, replay_fault_number, serve_fault_number}
+use Rattle.kd_loops.specs.Replay.{HasReplayed}
+use Rattle.kd_loops.specs.Serving.{ServesTo, Traffic, contents_in, failed_in}
+use Rattle.kd_loops.specs.declared.ends.EndFailed.{EndFailed}
+use Rattle.kd_loops.specs.declared.ends.Sink.{Ghosts as Sinks}
+use Rattle.kd_loops.specs.declared.fault.LoopFault.{LoopFault}
+use Rattle.kd_loops.specs.declared.fault.LoopFault.TheVariants as looping
+use Rattle.kd_loops.specs.declared.fault.ReplayFault.{ReplayFault}
+use Rattle.kd_loops.specs.declared.link.Link.{Ghosts as Links}
+use Rattle.kd_loops.specs.declared.fault.ServeFault.{ServeFault}
 use Rattle.kd_server.specs.Batch.{Batched}
-use Rattle.kd_server.specs.Keeping.{IsUnopened, Keeping, Opens, Refuses, Steps, latest_in}
-use Rattle.kd_events.specs.declared.filter.Filter.{Filter}
+use Rattle.kd_server.specs.Server.{IsUnopened, ServerState, Opens, Refuses, Steps, latest_in}
+use Rattle.kd_log.specs.declared.events.filter.Filter.{Filter}
 use Rattle.kd_program.specs.Banner.{removed_line, serving_line}
 use Rattle.kd_program.specs.Checking.{ChecksStart}
 use Rattle.kd_program.specs.Importing.{ImportsInto}
@@ -40,25 +41,14 @@ use Rattle.kd_program.specs.Listing.{ShowsView}
 use Rattle.kd_program.specs.Printing.{PrintsEvents}
 use Rattle.kd_program.specs.Streams.{At, Prints, Puts, ShowsOrBreaks, Starves, Stream, Streams, Tells, TellsWith, With}
 use Rattle.kd_program.specs.declared.host.Host.{Ghosts as Hosts}
-use Rattle.kd_program.specs.declared.listing.View.{View}
-use Rattle.kd_program.specs.declared.listing.View.TheVariants as views
 use Rattle.kd_commands.specs.declared.orders.Files.{Files}
 use Rattle.kd_rows.specs.declared.row.Row.{Row}
-use Rattle.kd_program.specs.declared.serving.Service.{Service}
-use Rattle.kd_program.specs.declared.serving.Work.{Work}
-use Rattle.kd_program.specs.declared.serving.Work.TheVariants as works
 
 -- the ports of a server: those of its arguments, or the standard ones (RFC 2131 section 4.1)
 abbrev pub ports_asked : Work → Ports
 ports_asked (works.Serve service) =
     record { server = service.listening.port; client = service.listening.client_port }
 ports_asked other = record { server = 67; client = 68 }
-
--- what a replay is opened for: to handle the events of standard input, or to explain the event of a
--- line
-abbrev pub replay_work : Option ℕ → Work
-replay_work None = works.Replay
-replay_work (Some number) = works.Explain number
 
 -- how a replay ends: without a fault, or with its fault reported
 abbrev pub EndsReplay : Result ℕ ReplayFault → ℕ → Stream → Stream → Type 0
@@ -77,7 +67,7 @@ EndsServe (Err fault) status old new =
 pub record OnLink (L R S : Type 0) : Type 0 where
   pub link : L
   pub journal : Option R
-  pub server : Keeping S
+  pub server : ServerState S
   pub streams : Streams
 
 -- what has happened on a link, what the record contains, and what was written
@@ -113,7 +103,7 @@ module _ {L R S : Type 0} (l : Links L) (r : Sinks R) (g : Ghosts S) where
 -- over a store of leases
 module _ {S : Type 0} (g : Ghosts S) where
   -- a server replays the rest of standard input to standard output
-  pub record ReplaysInput (server after : Keeping S) (status : ℕ) (old new : Streams) : Type 0 where
+  pub record ReplaysInput (server after : ServerState S) (status : ℕ) (old new : Streams) : Type 0 where
     pub result : Result ℕ ReplayFault
     pub replayed : HasReplayed (Steps g) (Refuses g) (new.input.failed ≡ true) result server after
         old.input.bytes new.input.bytes old.output.bytes new.output.bytes
@@ -148,7 +138,7 @@ module _ {H N U L R S : Type 0} (h : Hosts H N U L R) (l : Links L) (r : Sinks R
   -- line reports what was removed from the end of the record, if anything, and the next one what
   -- the server is, with the path of its store; and it serves datagrams of that socket
   pub record BeginsServing (store : Option (List ℕ)) (service : Service)
-      (before after : With (Keeping S) H) (status : ℕ) : Type 0 where
+      (before after : With (ServerState S) H) (status : ℕ) : Type 0 where
     pub link : L
     pub bound : H
     pub given : h.binds before.at.host service.listening (Ok link) bound
@@ -207,7 +197,7 @@ module _ {H N U L R S : Type 0} (h : Hosts H N U L R) (l : Links L) (r : Sinks R
     pub told : Starves status before.streams after.streams
 
   -- a server serves datagrams of the host's socket, or stays as it is
-  abbrev pub Listens : Option (List ℕ) → Service → With (Keeping S) H → With (Keeping S) H → ℕ → Type 0
+  abbrev pub Listens : Option (List ℕ) → Service → With (ServerState S) H → With (ServerState S) H → ℕ → Type 0
   Listens store service before after status =
       BeginsServing store service before after status
       ⊎ ((after.held ≡ before.held) × (HasNoSocket service.listening before.at after.at status
@@ -215,7 +205,7 @@ module _ {H N U L R S : Type 0} (h : Hosts H N U L R) (l : Links L) (r : Sinks R
       ⊎ HasNoLine service before.at after.at status)))
 
   -- the work that a server is opened for over the store at a path, or in memory if there is none
-  abbrev pub Works : Option (List ℕ) → Work → With (Keeping S) H → With (Keeping S) H → ℕ → Type 0
+  abbrev pub Works : Option (List ℕ) → Work → With (ServerState S) H → With (ServerState S) H → ℕ → Type 0
   Works store works.Replay before after status =
       (after.at.host ≡ before.at.host)
       × ReplaysInput g before.held after.held status before.at.streams after.at.streams
@@ -223,10 +213,10 @@ module _ {H N U L R S : Type 0} (h : Hosts H N U L R) (l : Links L) (r : Sinks R
       (after.at.host ≡ before.at.host) × ((after.held ≡ before.held)
       × ExplainsLine (standard_trial before.held.config before.held.rows) number status
       before.at.streams after.at.streams)
-  Works store (works.Show view) before after status =
+  Works store (works.Show view at live) before after status =
       (after.at.host ≡ before.at.host) × ((after.held ≡ before.held)
-      × ShowsView view (is_some (g.fault before.held.store)) before.held.config before.held.rows
-      status before.at.streams after.at.streams)
+      × ShowsView view at (is_some (g.fault before.held.store)) before.held.config
+      before.held.rows status before.at.streams after.at.streams)
   Works store (works.Serve service) before after status =
       Listens store service before after status
 
@@ -234,9 +224,9 @@ module _ {H N U L R S : Type 0} (h : Hosts H N U L R) (l : Links L) (r : Sinks R
   -- work, and returns its store
   pub record IsServed (store : Option (List ℕ)) (work : Work) (config : Configuration)
       (before after : With S H) (status : ℕ) : Type 0 where
-    pub server : Keeping S
+    pub server : ServerState S
     pub opened : Opens g (ports_asked work) config before.held server
-    pub left : Keeping S
+    pub left : ServerState S
     pub worked : Works store work (record { held = server; at = before.at })
         (record { held = left; at = after.at }) status
     pub closed : after.held ≡ left.store
@@ -269,163 +259,119 @@ module _ {H N U L R : Type 0} (h : Hosts H N U L R) where
   IsStoreFor None work host store = store ≡ None
   IsStoreFor (Some path) works.Replay host store = store ≡ Some path
   IsStoreFor (Some path) (works.Explain number) host store = IsStoreFound path host store
-  IsStoreFor (Some path) (works.Show view) host store = IsStoreFound path host store
+  IsStoreFor (Some path) (works.Show view at live) host store = IsStoreFound path host store
   IsStoreFor (Some path) (works.Serve service) host store = store ≡ Some path
+
+-- the path of a database, the view of it and its time, if work is a live view: another process may
+-- have the database open
+abbrev pub live_view : Option (List ℕ) → Work → Option (List ℕ × View × ℕ)
+live_view (Some path) (works.Show view at true) = Some (path, view, at)
+live_view path work = None
+
+-- a host is asked for something: it gives it, and this follows; or it gives a fault, which is
+-- reported by its number
+abbrev pub Obtains : {H V F : Type 0} → (H → Result V F → H → Type 0) → (F → ℕ)
+    → (V → At H → At H → ℕ → Type 0) → At H → At H → ℕ → Type 0
+Obtains {H} {V} {F} gives number Follows before after status =
+    ((value : V) × (asked : H) × gives before.host (Ok value) asked
+    × Follows value (record before { host = asked }) after status)
+    ⊎ ((fault : F) × gives before.host (Err fault) after.host
+    × Tells (number fault) status before.streams after.streams)
+
+-- over a host
+module _ {H N U L R : Type 0} (h : Hosts H N U L R) where
+  -- the host gives the rows of the database at a path, and a view of them is shown; memory may run
+  -- out for it
+  abbrev pub Looks : List ℕ → View → ℕ → Configuration → At H → At H → ℕ → Type 0
+  Looks path view at config =
+      Obtains (λ old rows new. h.copies old path rows new) (λ fault. look_fault_number fault)
+      (λ (rows : List Row) before after status. (after.host ≡ before.host)
+      × (ShowsView view at false config rows status before.streams after.streams
+      ⊎ Starves status before.streams after.streams))
 
 -- over a host with its two sorts of stores, its sockets and its records
 module _ {H N U L R : Type 0} (h : Hosts H N U L R) (named : Ghosts N) (unnamed : Ghosts U)
     (l : Links L) (r : Sinks R) where
-  -- a server works over the store that the host opens at a path, which has not failed, and the
+  -- a server works over a store at a path that the host has opened, which has not failed, and the
   -- store is returned to the host
-  pub record WorksAt (path : List ℕ) (work : Work) (config : Configuration) (before after : At H)
-      (status : ℕ) : Type 0 where
-    pub store : N
-    pub opened : H
-    pub given : h.opens before.host path (Ok store) opened
+  pub record WorksAt (path : List ℕ) (work : Work) (config : Configuration) (store : N)
+      (before after : At H) (status : ℕ) : Type 0 where
     pub works : is_some (named.fault store) ≡ false
     pub back : N
     pub left : H
     pub serves : ServesWork h l r named (Some path) work config
-        (record { held = store; at = record before { host = opened } })
+        (record { held = store; at = before })
         (record { held = back; at = record after { host = left } }) status
     pub closed : h.closes left path back after.host
 
-  -- a server works over the store in memory that the host makes, which has not failed
-  pub record WorksInMemory (work : Work) (config : Configuration) (before after : At H)
-      (status : ℕ) : Type 0 where
-    pub store : U
-    pub made : H
-    pub given : h.makes before.host (Ok store) made
+  -- a server works over a store in memory that the host has made, which has not failed
+  pub record WorksInMemory (work : Work) (config : Configuration) (store : U)
+      (before after : At H) (status : ℕ) : Type 0 where
     pub works : is_some (unnamed.fault store) ≡ false
     pub back : U
     pub serves : ServesWork h l r unnamed None work config
-        (record { held = store; at = record before { host = made } })
-        (record { held = back; at = after }) status
+        (record { held = store; at = before }) (record { held = back; at = after }) status
 
-  -- the host opens no store at a path, and this is reported
-  pub record HasNoStoreAt (path : List ℕ) (before after : At H) (status : ℕ) : Type 0 where
-    pub fault : StoreFault
-    pub given : h.opens before.host path (Err fault) after.host
-    pub told : Tells (store_fault_number fault) status before.streams after.streams
-
-  -- the host makes no store in memory, and this is reported
-  pub record HasNoStoreInMemory (before after : At H) (status : ℕ) : Type 0 where
-    pub fault : StoreFault
-    pub given : h.makes before.host (Err fault) after.host
-    pub told : Tells (store_fault_number fault) status before.streams after.streams
-
-  -- a server works over the host's store, with or without a path, or it is reported that there is
-  -- none
+  -- a server works over the host's store, with or without a path
   abbrev pub WorksOver : Option (List ℕ) → Work → Configuration → At H → At H → ℕ → Type 0
-  WorksOver (Some path) work config before after status =
-      WorksAt path work config before after status ⊎ HasNoStoreAt path before after status
-  WorksOver None work config before after status =
-      WorksInMemory work config before after status ⊎ HasNoStoreInMemory before after status
+  WorksOver (Some path) work config =
+      Obtains (λ old store new. h.opens old path store new) (λ fault. store_fault_number fault)
+      (λ store. WorksAt path work config store)
+  WorksOver None work config =
+      Obtains (λ old store new. h.makes old store new) (λ fault. store_fault_number fault)
+      (λ store. WorksInMemory work config store)
 
-  -- the host gives the configuration of these files, and a server uses it
-  pub record HasConfiguration (files : Files) (work : Work) (before after : At H)
-      (status : ℕ) : Type 0 where
-    pub config : Configuration
-    pub asked : H
-    pub given : h.configures before.host (option_map string_bytes files.config)
-        (option_map string_bytes files.token_dir) (Ok config) asked
-    pub store : Option (List ℕ)
-    pub is_for : IsStoreFor h (option_map string_bytes files.store) work asked store
-    pub works : WorksOver store work config (record before { host = asked }) after status
-
-  -- the host gives no configuration of these files, and this is reported
-  pub record HasNoConfiguration (files : Files) (before after : At H) (status : ℕ) : Type 0 where
-    pub fault : StartFault
-    pub given : h.configures before.host (option_map string_bytes files.config)
-        (option_map string_bytes files.token_dir) (Err fault) after.host
-    pub told : Tells (start_fault_number fault) status before.streams after.streams
-
-  -- one of the two
-  abbrev pub Starts : Files → Work → At H → At H → ℕ → Type 0
-  Starts files work before after status =
-      HasConfiguration files work before after status
-      ⊎ HasNoConfiguration files before after status
-
-  -- the host gives the rows of the database at a path, and a view of them is shown; memory may run
-  -- out for it
-  pub record ShowsCopy (path : List ℕ) (view : View) (config : Configuration)
+  -- a server works over the store for its work, where the operator gave this path
+  pub record WorksAsServer (path : Option (List ℕ)) (work : Work) (config : Configuration)
       (before after : At H) (status : ℕ) : Type 0 where
-    pub rows : List Row
-    pub given : h.copies before.host path (Ok rows) after.host
-    pub shows : ShowsView view false config rows status before.streams after.streams
-        ⊎ Starves status before.streams after.streams
+    pub store : Option (List ℕ)
+    pub is_for : IsStoreFor h path work before.host store
+    pub works : WorksOver store work config before after status
 
-  -- the host gives no rows of a database at a path, and this is reported
-  pub record HasNoCopy (path : List ℕ) (before after : At H) (status : ℕ) : Type 0 where
-    pub fault : LookFault
-    pub given : h.copies before.host path (Err fault) after.host
-    pub told : Tells (look_fault_number fault) status before.streams after.streams
+  -- a live view, if work is one, or what a server does
+  abbrev pub WorksBy : Option (List ℕ × View × ℕ) → Option (List ℕ) → Work → Configuration → At H
+      → At H → ℕ → Type 0
+  WorksBy (Some (live, view, at)) path work config before after status =
+      Looks h live view at config before after status
+  WorksBy None path work config before after status =
+      WorksAsServer path work config before after status
 
-  -- the host gives the configuration of these files, and the database at a path is read
-  pub record LooksUnder (files : Files) (path : List ℕ) (view : View) (before after : At H)
-      (status : ℕ) : Type 0 where
-    pub config : Configuration
-    pub asked : H
-    pub given : h.configures before.host (option_map string_bytes files.config)
-        (option_map string_bytes files.token_dir) (Ok config) asked
-    pub looks : ShowsCopy path view config (record before { host = asked }) after status
-        ⊎ HasNoCopy path (record before { host = asked }) after status
+  -- work under a configuration, where the operator gave this path of a store
+  pub record WorksUnder (path : Option (List ℕ)) (work : Work) (config : Configuration)
+      (before after : At H) (status : ℕ) : Type 0 where
+    pub live : Option (List ℕ × View × ℕ)
+    pub is_live : live ≡ live_view path work
+    pub works : WorksBy live path work config before after status
 
-  -- a view of the database at a path, which another process may have open
-  abbrev pub Looks : Files → List ℕ → View → At H → At H → ℕ → Type 0
-  Looks files path view before after status =
-      LooksUnder files path view before after status
-      ⊎ HasNoConfiguration files before after status
+  -- work under the configuration of these files, over the store that they name
+  abbrev pub Starts : Files → Work → At H → At H → ℕ → Type 0
+  Starts files work =
+      Obtains (λ old config new. h.configures old (option_map string_bytes files.config)
+      (option_map string_bytes files.token_dir) config new) (λ fault. start_fault_number fault)
+      (λ config. WorksUnder (option_map string_bytes files.store) work config)
 
-  -- the lines on standard input are imported into the store that the host opens at a path, and the
-  -- store is returned to the host
-  pub record ImportsAt (path : List ℕ) (before after : At H) (status : ℕ) : Type 0 where
-    pub store : N
-    pub opened : H
-    pub given : h.opens before.host path (Ok store) opened
+  -- the lines on standard input are imported into a store that the host has opened at a path, and
+  -- the store is returned to the host
+  pub record ImportsAt (path : List ℕ) (store : N) (before after : At H) (status : ℕ) : Type 0 where
     pub rows : List Row
     pub read : AreRead named store rows
     pub back : N
     pub imports : ImportsInto named rows store back status before.streams after.streams
-    pub closed : h.closes opened path back after.host
+    pub closed : h.closes before.host path back after.host
 
-  -- an import into the store at a path, or it is reported that there is none
+  -- an import into the store at a path
   abbrev pub Imports : List ℕ → At H → At H → ℕ → Type 0
-  Imports path before after status =
-      ImportsAt path before after status ⊎ HasNoStoreAt path before after status
-
-  -- a view of the store of these files; if there is a path at which another process may have it
-  -- open, it is read without a lock
-  abbrev pub ViewsStore : Option (List ℕ) → Files → View → At H → At H → ℕ → Type 0
-  ViewsStore (Some path) files view before after status =
-      Looks files path view before after status
-  ViewsStore None files view before after status =
-      Starts files (works.Show view) before after status
+  Imports path =
+      Obtains (λ old store new. h.opens old path store new) (λ fault. store_fault_number fault)
+      (λ store. ImportsAt path store)
 
   -- what an order does
   abbrev pub CarriesOut : Order → At H → At H → ℕ → Type 0
-  CarriesOut (orders.Replay files why) before after status =
-      Starts files (replay_work why) before after status
-  CarriesOut (orders.List listing files at) before after status =
-      Starts files (works.Show (views.Listing listing at)) before after status
-  CarriesOut (orders.Look listing config token_dir store at) before after status =
-      Looks (record { config = config; token_dir = token_dir; store = None }) (string_bytes store)
-      (views.Listing listing at) before after status
-  CarriesOut (orders.Why files live at word) before after status =
-      ViewsStore (if live then option_map string_bytes files.store else None) files
-      (views.Why word at) before after status
+  CarriesOut (orders.Over files work) before after status = Starts files work before after status
   CarriesOut (orders.Import store) before after status =
       Imports (string_bytes store) before after status
-  CarriesOut (orders.Serve files listening count journal max_ahead) before after status =
-      Starts files (works.Serve (record {
-        listening = listening;
-        count = count;
-        journal = journal;
-        max_ahead = max_ahead;
-      })) before after status
-  CarriesOut (orders.Check files bind port max_ahead) before after status =
-      ChecksStart h files (record { address = bind; port = port; max_ahead = max_ahead })
-      before after status
+  CarriesOut (orders.Check files place) before after status =
+      ChecksStart h files place before after status
   CarriesOut (orders.Events mac address) before after status =
       (after.host ≡ before.host)
       × SaysEvents (record { mac = option_map vec_items mac; address = address }) status

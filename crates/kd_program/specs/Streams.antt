@@ -2,12 +2,12 @@
 use Rattle.std.specs.Prelude.{◌≡◌, ◌≢◌, ◌⊎◌, ℕ, Bool, true, List, [], ◌++◌, Option, codes}
 use Rattle.std.specs.Fmt.{decimal}
 use Rattle.std.specs.Io.KnownBytes.{Appends}
-use Rattle.kd_print.specs.Show.{line_feed}
-use Rattle.kd_print.specs.Status.{status_of}
-use Rattle.kd_print.specs.declared.printed.Printed.{Printed}
-use Rattle.kd_replay.specs.Parts.{WritesPart}
-use Rattle.kd_replay.specs.declared.ends.Sink.{Ghosts as Sinks}
-use Rattle.kd_replay.specs.declared.ends.Source.{Ghosts as Sources}
+use Rattle.kd_answers.specs.Show.{line_feed}
+use Rattle.kd_answers.specs.Status.{status_of}
+use Rattle.kd_answers.specs.declared.printed.Printed.{Printed}
+use Rattle.kd_loops.specs.Parts.{WritesPart}
+use Rattle.kd_loops.specs.declared.ends.Sink.{Ghosts as Sinks}
+use Rattle.kd_loops.specs.declared.ends.Source.{Ghosts as Sources}
 use Rattle.kd_program.specs.declared.ends.StandardEnds.{StandardEnds}
 
 -- a stream: its remaining bytes to read or the bytes written to it, if they are known, and whether

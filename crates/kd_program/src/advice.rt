@@ -8,7 +8,7 @@ use crate::host::Host;
 use kd_check::findings::SocketTrouble;
 use kd_classes::{ClassDef, Classes};
 use kd_config::{Config, Pool, Prefix, Subnet};
-use kd_replay::{put_address, put_prefix};
+use kd_text::{put_address, put_prefix};
 use kd_token::{Token, Verified};
 use kd_wire::Bytes;
 use std::alloc::AllocError;

@@ -6,7 +6,7 @@ ghost use Rattle.kd_program.specs.Banner.{subnet_addresses, banner_text, amounts
 use kd_commands::Listening;
 use kd_config::{Pool, Subnet};
 use kd_names::put_signs;
-use kd_replay::put_address;
+use kd_text::put_address;
 use std::alloc::{AllocError, Global};
 use std::fmt::Write;
 

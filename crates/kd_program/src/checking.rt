@@ -7,31 +7,14 @@ use crate::host::Host;
 use crate::printing::{refuse_memory, show};
 use crate::report::report_of;
 use crate::serving::read_configuration;
+use kd_answers::exit_status;
 use kd_check::findings::{SocketTrouble, StoreTrouble};
-use kd_commands::Files;
+use kd_commands::{Files, Place};
 use kd_config::Config;
 use kd_io::{LookFault, StartFault};
-use kd_print::exit_status;
-use kd_replay::{Sink, Source, starts_behind};
+use kd_loops::{LoopFault, ServeFault, Sink, Source, starts_behind};
 use kd_rows::Rows;
 use std::alloc::Global;
-
-// The number of the fault that the clock is ahead or behind.
-const AHEAD: u8 = 101;
-
-// The number of the fault that nothing can be received.
-const UNREAD: u8 = 94;
-
-/// The socket of a server, and how far the server's clock may run ahead.
-#[derive(Clone, Copy)]
-pub struct Place {
-    /// The address of the socket, an IPv4 address in host order.
-    pub address: u32,
-    /// The UDP port of the socket.
-    pub port: u16,
-    /// How many seconds the clock may run ahead; no limit if absent.
-    pub max_ahead: Option<u64>,
-}
 
 // What was found out about a store.
 #[derive(Drop)]
@@ -84,7 +67,7 @@ pub(crate) fn check<H: Host, R: Source, O: Sink, E: Sink>(
 {
     let config = read_configuration(host, files);
     let store = find_store(host, &files.store, place.max_ahead);
-    let socket = host.try_socket(place.address, place.port);
+    let socket = host.try_socket(place.bind, place.port);
     let status = status_of_first(
         number_of_config(&config),
         store.number(),
@@ -152,8 +135,8 @@ impl StoreFinding {
             StoreFinding::Trouble(_) => Some(81),
             StoreFinding::Unread(LookFault::NoTable) => None,
             StoreFinding::Unread(fault) => Some(fault.number()),
-            StoreFinding::Memory => Some(91),
-            StoreFinding::Open(seen) if seen.is_behind => Some(AHEAD),
+            StoreFinding::Memory => Some(ServeFault::Memory.number()),
+            StoreFinding::Open(seen) if seen.is_behind => Some(LoopFault::Ahead.number()),
             StoreFinding::Open(_) => None,
         }
     }
@@ -175,7 +158,7 @@ fn number_of_socket(socket: Result<bool, SocketTrouble>) -> Option<u8>
 {
     match socket {
         Ok(_) => None,
-        Err(_) => Some(UNREAD),
+        Err(_) => Some(LoopFault::Read.number()),
     }
 }
 

@@ -1,4 +1,4 @@
-use kd_replay::{Sink, Source};
+use kd_loops::{Sink, Source};
 
 /// The standard streams of a command.
 #[derive(Drop)]

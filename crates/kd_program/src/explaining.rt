@@ -10,8 +10,8 @@ use crate::printing::{refuse, refuse_memory, refuse_replay, refuse_words, show};
 use hex::FromHexError;
 use kd_commands::LineFault;
 use kd_event::Ports;
-use kd_replay::{ServeFault, Sink, Source};
-use kd_server::Rules;
+use kd_loops::{ServeFault, Sink, Source};
+use kd_server::Terms;
 use kd_why::{why_line, why_text};
 use std::alloc::Global;
 
@@ -68,19 +68,13 @@ fn text_over(
     if table.failed {
         return Err(ServeFault::Failed);
     }
-    let rules = Rules {
+    let terms = Terms {
         alloc,
-        ports: STANDARD,
+        ports: Ports::STANDARD,
         config: table.config,
     };
-    why_text(rules, table.rows, at, bytes)
+    why_text(terms, table.rows, at, bytes)
 }
-
-// The ports of DHCP (RFC 2131 section 4.1).
-const STANDARD: Ports = Ports {
-    server: 67,
-    client: 68,
-};
 
 // Explains the event of a line of standard input over a copy of a table of leases, after the
 // events of the lines before it have changed that copy, and returns the exit status.
@@ -95,12 +89,12 @@ pub(crate) fn explain_line<R: Source, O: Sink, E: Sink>(
         result
         (streams R.Source O.Sink E.Sink ends.old) (streams R.Source O.Sink E.Sink ends.new) }
 {
-    let rules = Rules {
+    let terms = Terms {
         alloc,
-        ports: STANDARD,
+        ports: Ports::STANDARD,
         config: table.config,
     };
-    match why_line(&mut ends.input, rules, table.rows, number) {
+    match why_line(&mut ends.input, terms, table.rows, number) {
         Ok(text) => show(&mut ends.output, &mut ends.faults, &text, 0),
         Err(fault) => refuse_replay(alloc, &mut ends.faults, fault),
     }

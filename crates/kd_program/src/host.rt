@@ -3,7 +3,7 @@ use kd_commands::{Files, Listening};
 use kd_config::Config;
 use kd_io::{Appended, LookFault, StartFault};
 use kd_keeps::{Keeps, Opened, StoreFault};
-use kd_replay::{EndFailed, Link, Sink};
+use kd_loops::{EndFailed, Link, Sink};
 use kd_rows::Row;
 use std::alloc::AllocError;
 
@@ -20,7 +20,7 @@ pub trait Host {
     ghost use Rattle.kd_io.specs.declared.start.StartFault.{StartFault};
     ghost use Rattle.kd_keeps.specs.Reading.{AreRead};
     ghost use Rattle.kd_keeps.specs.declared.fault.StoreFault.{StoreFault};
-    ghost use Rattle.kd_replay.specs.declared.ends.EndFailed.{EndFailed};
+    ghost use Rattle.kd_loops.specs.declared.ends.EndFailed.{EndFailed};
     ghost use Rattle.kd_rows.specs.Row.{IsInRange};
     ghost use Rattle.kd_rows.specs.Table.{Rise};
     ghost use Rattle.kd_rows.specs.declared.row.Row.{Row as LeaseRow};

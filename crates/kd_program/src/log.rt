@@ -4,8 +4,8 @@ ghost use Rattle.kd_program.specs.Streams.{streams};
 
 use crate::ends::StandardEnds;
 use crate::printing::refuse_replay;
-use kd_events::{Filter, events_with};
-use kd_replay::{Sink, Source};
+use kd_log::{Filter, events_with};
+use kd_loops::{Sink, Source};
 use kd_wire::Bytes;
 use std::alloc::Global;
 

@@ -1,78 +1,54 @@
 ghost use Rattle.std.specs.Prelude.{◌⊎◌, false};
 ghost use Rattle.std.specs.List.{All};
 ghost use Rattle.kd_program.specs.Listing.{ShowsView};
-ghost use Rattle.kd_program.specs.Running.{HasNoCopy, ShowsCopy, Looks};
+ghost use Rattle.kd_program.specs.Running.{Looks};
 ghost use Rattle.kd_program.specs.Streams.{Starves, at_ends, streams};
 ghost use Rattle.kd_rows.specs.Row.{IsInRange};
 ghost use Rattle.kd_rows.specs.Table.{Rise};
 
 use crate::ends::StandardEnds;
 use crate::host::Host;
-use crate::listing::{LeaseTable, View, print_view};
+use crate::listing::{LeaseTable, print_view};
 use crate::printing::{refuse, refuse_memory};
-use crate::serving::{read_configuration, refuse_start};
-use kd_commands::Files;
+use kd_commands::View;
 use kd_config::Config;
-use kd_replay::{Sink, Source};
+use kd_loops::{Sink, Source};
 use kd_rows::{Row, Rows};
 use std::alloc::Global;
 
-// Prints a view of the database at a path, which another process may have open, under the
-// configuration of these files, and returns the exit status.
+// Prints a view of the database at a path, which another process may have open, under a
+// configuration at a time, and returns the exit status.
 pub(crate) fn look<H: Host, R: Source, O: Sink, E: Sink>(
     alloc: Global,
     host: &mut H,
     ends: &mut StandardEnds<R, O, E>,
-    files: &Files,
+    config: Config,
     path: &str,
     view: &View,
+    at: u64,
 ) -> u8
-    ensures { Looks H.Host H.Named.Keeps H.Unnamed.Keeps H.Socket.Link H.Journal.Sink
-        files.now path.now view.now
-        (at_ends R.Source O.Sink E.Sink host.old ends.old)
-        (at_ends R.Source O.Sink E.Sink host.new ends.new) result }
-{
-    match read_configuration(host, files) {
-        Ok(config) => look_at(alloc, host, ends, &config, path, view),
-        Err(fault) => refuse_start(alloc, &mut ends.faults, &fault),
-    }
-}
-
-// Does the same under a configuration.
-fn look_at<H: Host, R: Source, O: Sink, E: Sink>(
-    alloc: Global,
-    host: &mut H,
-    ends: &mut StandardEnds<R, O, E>,
-    config: &Config,
-    path: &str,
-    view: &View,
-) -> u8
-    ensures { ShowsCopy H.Host H.Named.Keeps H.Unnamed.Keeps H.Socket.Link H.Journal.Sink
-        path.now view.now config.now
-        (at_ends R.Source O.Sink E.Sink host.old ends.old)
-        (at_ends R.Source O.Sink E.Sink host.new ends.new) result
-        ⊎ HasNoCopy H.Host H.Named.Keeps H.Unnamed.Keeps H.Socket.Link H.Journal.Sink
-        path.now
+    ensures { Looks H.Host path.now view.now at config
         (at_ends R.Source O.Sink E.Sink host.old ends.old)
         (at_ends R.Source O.Sink E.Sink host.new ends.new) result }
 {
     match host.copy(path) {
-        Ok(rows) => list_rows(alloc, ends, config, rows, view),
+        Ok(rows) => print_rows(alloc, ends, &config, rows, view, at),
         Err(fault) => refuse(alloc, &mut ends.faults, fault.number(), &fault),
     }
 }
 
 // Prints a view of rows.
-fn list_rows<R: Source, O: Sink, E: Sink>(
+fn print_rows<R: Source, O: Sink, E: Sink>(
     alloc: Global,
     ends: &mut StandardEnds<R, O, E>,
     config: &Config,
     rows: Vec<Row>,
     view: &View,
+    at: u64,
 ) -> u8
     requires rise { Rise rows.items }
     requires ranges { All IsInRange rows.items }
-    ensures { ShowsView view.now false config.now rows.items result
+    ensures { ShowsView view.now at false config.now rows.items result
         (streams R.Source O.Sink E.Sink ends.old) (streams R.Source O.Sink E.Sink ends.new)
         ⊎ Starves result
         (streams R.Source O.Sink E.Sink ends.old) (streams R.Source O.Sink E.Sink ends.new) }
@@ -84,7 +60,7 @@ fn list_rows<R: Source, O: Sink, E: Sink>(
                 rows: &rows,
                 failed: false,
             };
-            print_view(alloc, ends, view, &table)
+            print_view(alloc, ends, view, at, &table)
         }
         Err(_) => refuse_memory(&mut ends.faults),
     }

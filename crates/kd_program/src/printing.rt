@@ -1,15 +1,15 @@
 ghost use Rattle.std.specs.Prelude.{◌≡◌, ◌++◌, ℕ, IfOk, List, codes, string_bytes};
 ghost use Rattle.std.specs.Fmt.{decimal};
-ghost use Rattle.kd_print.specs.Show.{line_feed};
+ghost use Rattle.kd_answers.specs.Show.{line_feed};
 ghost use Rattle.kd_program.specs.Streams.{Prints, Puts, ShowsOrBreaks, TellsWith, fault_line, memory_line, streams, written_to};
 ghost use Rattle.kd_commands.specs.Order.{line_fault_number};
-ghost use Rattle.kd_print.specs.Status.{replay_status_of, status_of};
-ghost use Rattle.kd_replay.specs.Faults.{replay_fault_number};
+ghost use Rattle.kd_answers.specs.Status.{replay_status_of, status_of};
+ghost use Rattle.kd_loops.specs.Faults.{replay_fault_number};
 
 use crate::ends::StandardEnds;
+use kd_answers::{Printed, exit_status, replay_status};
 use kd_commands::LineFault;
-use kd_print::{Printed, exit_status, replay_status};
-use kd_replay::{ReplayFault, Sink, Source, write_all};
+use kd_loops::{ReplayFault, Sink, Source, write_all};
 use std::alloc::{AllocError, Global};
 use std::fmt::Display;
 

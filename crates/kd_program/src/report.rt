@@ -4,10 +4,11 @@ ghost use Rattle.kd_program.specs.Report.{IsPlain, IsCheckReport, ahead_text, be
 
 use crate::advice::put_advice;
 use crate::banner::{pool_addresses, put_place};
-use crate::checking::{Found, Place, SeenRows, StoreFinding};
+use crate::checking::{Found, SeenRows, StoreFinding};
 use crate::host::Host;
+use crate::serving::path_in;
 use kd_check::findings::{SocketTrouble, StoreTrouble};
-use kd_commands::Files;
+use kd_commands::{Files, Place};
 use kd_config::Config;
 use kd_io::{LookFault, StartFault};
 use kd_keeps::StoreFault;
@@ -151,17 +152,9 @@ fn put_fault<H: Host>(
     ensures { OnOk result ((words : List ℕ)
         × (string_bytes text.new ≡ string_bytes text.old ++ words)) }
 {
-    let words = host.start_words(text_of(&files.config), text_of(&files.token_dir), fault)?;
+    let words = host.start_words(path_in(&files.config), path_in(&files.token_dir), fault)?;
     text.push_str(words.as_str())?;
     Ok(())
-}
-
-// Returns a path, if one is given.
-fn text_of(path: &Option<String>) -> Option<&str> {
-    match path {
-        Some(path) => Some(path.as_str()),
-        None => None,
-    }
 }
 
 // Prints what was found out about the store at a path and its log, if there is a path.
@@ -339,7 +332,7 @@ fn put_socket(
     ensures { OnOk result
         (string_bytes text.new ≡ string_bytes text.old ++ socket_lines place socket) }
 {
-    put_place(text, place.address, place.port)?;
+    put_place(text, place.bind, place.port)?;
     text.push_str(": ")?;
     put_answer(text, socket)
 }

@@ -1,55 +1,30 @@
 ghost use Rattle.std.specs.Prelude.{◌≡◌, ◌++◌, ◌<◌, Err, IfOk, IsTrue, MatchResult, Ok, false, is_some, option_map, string_bytes};
 ghost use Rattle.std.specs.Option.{option_copied};
-ghost use Rattle.kd_print.specs.Status.{status_of};
+ghost use Rattle.kd_answers.specs.Status.{status_of};
 ghost use Rattle.kd_io.specs.Faults.{start_fault_number};
 ghost use Rattle.kd_keeps.specs.Fault.{store_fault_number};
 ghost use Rattle.kd_keeps.specs.Reading.{AreRead};
 ghost use Rattle.kd_program.specs.Streams.{TellsWith, at_ends, streams, written_to};
-ghost use Rattle.kd_replay.specs.Serving.{failed_in};
+ghost use Rattle.kd_loops.specs.Serving.{failed_in};
 ghost use Rattle.kd_program.specs.Banner.{removed_line, serving_line};
-ghost use Rattle.kd_program.specs.Running.{GivesJournal, IsStoreFor, IsStoreFound, Listens, ReplaysInput, ServesWork, Starts, Works, ports_asked};
+ghost use Rattle.kd_program.specs.Running.{GivesJournal, IsStoreFor, IsStoreFound, Listens, ReplaysInput, ServesWork, Starts, WorksAsServer, live_view, ports_asked};
 
 use crate::banner::{Banner, Sizes, pool_addresses, put_banner, put_removed};
 use crate::ends::StandardEnds;
 use crate::explaining::explain_line;
 use crate::host::Host;
-use crate::listing::{LeaseTable, View, print_view};
+use crate::listing::{LeaseTable, print_view};
+use crate::looking::look;
 use crate::printing::{refuse, refuse_as, refuse_memory, refuse_replay, tell};
-use kd_commands::{Files, Listening};
+use kd_answers::serve_status;
+use kd_commands::{Files, Service, View, Work};
 use kd_config::Config;
 use kd_event::Ports;
 use kd_io::{Appended, StartFault};
 use kd_keeps::{Keeps, Opened, StoreFault};
-use kd_print::serve_status;
-use kd_replay::{EndFailed, Limits, Link, LoopFault, Sink, Source};
+use kd_loops::{EndFailed, Limits, Link, LoopFault, Sink, Source};
 use kd_server::{Server, replay, serve};
 use std::alloc::{AllocError, Global};
-
-/// How datagrams of a socket are served.
-#[derive(Drop)]
-pub struct Service {
-    /// The address of the socket, and where replies go.
-    pub listening: Listening,
-    /// The number of datagrams to serve.
-    pub count: u64,
-    /// The path of the file to which received datagrams are appended, if there is one.
-    pub journal: Option<String>,
-    /// How many seconds the clock may run ahead; no limit if absent.
-    pub max_ahead: Option<u64>,
-}
-
-/// What a server is opened for.
-#[derive(Drop)]
-pub enum Work {
-    /// To replay the events of standard input to standard output.
-    Replay,
-    /// To explain the event of a line of standard input.
-    Explain(u64),
-    /// To print a view of the leases.
-    Show(View),
-    /// To serve datagrams of a socket.
-    Serve(Service),
-}
 
 // What a command uses: its files, and the path of its store, unless that is in memory.
 #[derive(Clone, Copy)]
@@ -68,27 +43,65 @@ fn batch_size(is_file: bool, mirror: bool) -> usize
     if is_file && !mirror { 32 } else { 1 }
 }
 
-// Does this work as a server with the configuration of these files, which keeps its leases in the
-// store at a path, or in memory if there is none; and returns the exit status. Work that only reads
-// makes no database.
-pub(crate) fn start_server<H: Host, R: Source, O: Sink, E: Sink>(
+// Does this work under the configuration of these files, over the store that they name, and returns
+// the exit status. A live view reads the database of that store; other work is done as a server.
+pub(crate) fn start<H: Host, R: Source, O: Sink, E: Sink>(
     alloc: Global,
     host: &mut H,
     ends: &mut StandardEnds<R, O, E>,
+    files: Files,
+    work: Work,
+) -> u8
+    requires input { R.has_failed ends.old.input ≡ false }
+    requires output { O.has_failed ends.old.output ≡ false }
+    ensures { Starts H.Host H.Named.Keeps H.Unnamed.Keeps H.Socket.Link H.Journal.Sink files work
+        (at_ends R.Source O.Sink E.Sink host.old ends.old)
+        (at_ends R.Source O.Sink E.Sink host.new ends.new) result }
+{
+    match read_configuration(host, &files) {
+        Ok(config) => match view_if_live(&files, &work) {
+            Some((path, view, at)) => look(alloc, host, ends, config, path, view, at),
+            None => work_as_server(alloc, host, ends, config, &files, &work),
+        },
+        Err(fault) => refuse_start(alloc, &mut ends.faults, &fault),
+    }
+}
+
+// Returns the path of a database, the view of it and its time, if work is a live view.
+fn view_if_live<'a>(files: &'a Files, work: &'a Work) -> Option<(&'a str, &'a View, u64)>
+    ensures { option_map (λ it. (it.0.now, it.1.now, it.2)) result
+        ≡ live_view (option_map string_bytes files.now.store) work.now }
+{
+    match (&files.store, work) {
+        (
+            Some(path),
+            Work::Show {
+                view,
+                at,
+                live: true,
+            },
+        ) => Some((path.as_str(), view, *at)),
+        _ => None,
+    }
+}
+
+// Does this work as a server, which keeps its leases in the store at the path that the operator gave,
+// or in memory if there is none. Work that only reads makes no database.
+fn work_as_server<H: Host, R: Source, O: Sink, E: Sink>(
+    alloc: Global,
+    host: &mut H,
+    ends: &mut StandardEnds<R, O, E>,
+    config: Config,
     files: &Files,
     work: &Work,
 ) -> u8
     requires input { R.has_failed ends.old.input ≡ false }
     requires output { O.has_failed ends.old.output ≡ false }
-    ensures { Starts H.Host H.Named.Keeps H.Unnamed.Keeps H.Socket.Link H.Journal.Sink
-        files.now work.now
+    ensures { WorksAsServer H.Host H.Named.Keeps H.Unnamed.Keeps H.Socket.Link H.Journal.Sink
+        (option_map string_bytes files.now.store) work.now config
         (at_ends R.Source O.Sink E.Sink host.old ends.old)
         (at_ends R.Source O.Sink E.Sink host.new ends.new) result }
 {
-    let config = match read_configuration(host, files) {
-        Ok(config) => config,
-        Err(fault) => return refuse_start(alloc, &mut ends.faults, &fault),
-    };
     let store = store_for(host, files, work);
     let used = Used { files, store };
     match store {
@@ -115,7 +128,7 @@ fn store_for<'a, H: Host>(host: &H, files: &'a Files, work: &Work) -> Option<&'a
     match &files.store {
         Some(path) => match work {
             Work::Replay | Work::Serve(_) => Some(path.as_str()),
-            Work::Explain(_) | Work::Show(_) => store_found(host, path.as_str()),
+            Work::Explain(_) | Work::Show { .. } => store_found(host, path.as_str()),
         },
         None => None,
     }
@@ -137,13 +150,13 @@ pub(crate) fn read_configuration<H: Host>(host: &mut H, files: &Files) -> Result
     ensures { H.Host.configures host.old (option_map string_bytes files.now.config)
         (option_map string_bytes files.now.token_dir) result host.new }
 {
-    let file = text_of(&files.config);
-    let folder = text_of(&files.token_dir);
+    let file = path_in(&files.config);
+    let folder = path_in(&files.token_dir);
     host.configuration(file, folder)
 }
 
 // Returns a path, if one is given.
-fn text_of(path: &Option<String>) -> Option<&str>
+pub(crate) fn path_in(path: &Option<String>) -> Option<&str>
     ensures { option_copied result ≡ option_map string_bytes path.now }
 {
     match path {
@@ -195,34 +208,14 @@ fn run_over_store<H: Host, R: Source, O: Sink, E: Sink, S: Keeps>(
             return (status, store);
         }
     };
-    let status = do_work(alloc, host, ends, &mut server, work, used);
+    let status = match work {
+        Work::Replay => replay_input(alloc, ends, &mut server),
+        Work::Explain(number) => explain_line(alloc, ends, &table_of(&server), *number),
+        Work::Show { view, at, .. } => print_view(alloc, ends, view, *at, &table_of(&server)),
+        Work::Serve(service) => serve_link(alloc, host, ends, &mut server, service, used),
+    };
     let (_, store) = server.close();
     (status, store)
-}
-
-// Does this work as a server over a store.
-fn do_work<H: Host, R: Source, O: Sink, E: Sink, S: Keeps>(
-    alloc: Global,
-    host: &mut H,
-    ends: &mut StandardEnds<R, O, E>,
-    server: &mut Server<S>,
-    work: &Work,
-    used: Used<'_>,
-) -> u8
-    requires input { R.has_failed ends.old.input ≡ false }
-    requires output { O.has_failed ends.old.output ≡ false }
-    ensures { Works H.Host H.Socket.Link H.Journal.Sink S.Keeps
-        (option_copied used.entry.store) work.now
-        (record { held = server.old; at = at_ends R.Source O.Sink E.Sink host.old ends.old })
-        (record { held = server.new; at = at_ends R.Source O.Sink E.Sink host.new ends.new })
-        result }
-{
-    match work {
-        Work::Replay => replay_input(alloc, ends, server),
-        Work::Explain(number) => explain_line(alloc, ends, &table_of(server), *number),
-        Work::Show(view) => print_view(alloc, ends, view, &table_of(server)),
-        Work::Serve(service) => serve_link(alloc, host, ends, server, service, used),
-    }
 }
 
 // The rows of a server under its configuration.
@@ -247,10 +240,7 @@ fn ports_of(work: &Work) -> Ports
             server: service.listening.port,
             client: service.listening.client_port,
         },
-        _ => Ports {
-            server: 67,
-            client: 68,
-        },
+        _ => Ports::STANDARD,
     }
 }
 
@@ -351,7 +341,7 @@ fn first_lines<S: Keeps>(
         store: store.unwrap_or("memory"),
     };
     let mut lines = String::new(alloc);
-    put_removed(alloc, &mut lines, text_of(&service.journal), removed)?;
+    put_removed(alloc, &mut lines, path_in(&service.journal), removed)?;
     put_banner(alloc, &mut lines, &banner)?;
     Ok(lines)
 }

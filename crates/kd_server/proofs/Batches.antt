@@ -6,13 +6,13 @@ use Rattle.kd_event.specs.declared.event.Handled.{Handled}
 use Rattle.kd_keeps.specs.declared.fault.StoreFault.{StoreFault}
 use Rattle.kd_keeps.specs.declared.keeps.Keeps.{Ghosts}
 use Rattle.kd_lease.specs.Change.{after}
-use Rattle.kd_replay.specs.History.{Halts, History}
-use Rattle.kd_replay.specs.declared.fault.ServeFault.{ServeFault}
-use Rattle.kd_replay.specs.declared.fault.ServeFault.TheVariants as faults
+use Rattle.kd_loops.specs.History.{Halts, History}
+use Rattle.kd_loops.specs.declared.fault.ServeFault.{ServeFault}
+use Rattle.kd_loops.specs.declared.fault.ServeFault.TheVariants as faults
 use Rattle.kd_rows.specs.declared.row.Row.{Row}
 use Rattle.kd_server.specs.Batch.{Batched, IsChangedBy, IsCommitted, LeavesOut}
-use Rattle.kd_server.specs.Keeping.{Keeping, StepsTo}
-use Rattle.kd_replay.proofs.Histories.{runs_none}
+use Rattle.kd_server.specs.Server.{ServerState, StepsTo}
+use Rattle.kd_loops.proofs.Histories.{runs_none}
 
 -- an event that is not handled leaves the rows
 pub left_rows : (fault : ServeFault) (rows : List Row) (event : Event) (new : List Row) → LeavesOut rows event fault new → new ≡ rows
@@ -47,11 +47,6 @@ module _ (steps : List Row → Event → Handled → List Row → Type 0) (event
   moved_still rows set next new (inl none) still (inl same) = inl (same.1 ∙ none.0)
   moved_still rows set next new (inl none) still (inr other) = absurd (other still)
 
-  -- there is nothing to commit, or events have changed the rows
-  pub moved_or_none : (rows set : List Row) → Moved rows set → (set ≡ []) ⊎ IsChangedBy steps events first
-  moved_or_none rows set (inl none) = inl none.0
-  moved_or_none rows set (inr changed) = inr changed
-
 -- no event is left out because of a fault of the store
 no_store : (why : StoreFault) (after : List Event) (list : List Handled) (mid new : List Row) → Halts LeavesOut (Some (faults.Store why)) after list mid new → ⊥
 no_store why [] list mid new n = let e = n.want in cc
@@ -65,7 +60,7 @@ no_failed (event ∷ after) list mid new (inl out) = out
 no_failed (event ∷ after) list mid new (inr n) = let e = n.want in cc
 
 -- events that are committed are a batch
-pub committed_is : {S : Type 0} (g : Ghosts S) (old : Keeping S) (events : List Event) (list : List Handled) (fault : Option ServeFault) (new : Keeping S)
+pub committed_is : {S : Type 0} (g : Ghosts S) (old : ServerState S) (events : List Event) (list : List Handled) (fault : Option ServeFault) (new : ServerState S)
     → IsCommitted g old events list fault new → Batched g old events list fault new
 committed_is g old events list None new a = a
 committed_is g old events list (Some faults.MomentTooLarge) new a = a
@@ -74,7 +69,7 @@ committed_is g old events list (Some (faults.Store why)) new a = absurd (no_stor
 committed_is g old events list (Some faults.Failed) new a = absurd (no_failed a.runs.after list a.runs.mid new.rows a.runs.halts)
 
 -- if memory runs out before the first event, nothing changes
-pub not_begun_is : {S : Type 0} (g : Ghosts S) (old : Keeping S) (events : List Event) (list : List Handled) → is_some (g.fault old.store) ≡ false → list ≡ []
+pub not_begun_is : {S : Type 0} (g : Ghosts S) (old : ServerState S) (events : List Event) (list : List Handled) → is_some (g.fault old.store) ≡ false → list ≡ []
     → IsCommitted g old events list (Some faults.Memory) old
 not_begun_is g old events list worked none = record {
   worked = worked;

@@ -8,7 +8,7 @@ use Rattle.kd_event.specs.declared.ports.Ports.{Ports}
 use Rattle.kd_lease.specs.Change.{after}
 use Rattle.kd_rows.specs.Table.{latest_of}
 use Rattle.kd_rows.specs.declared.row.Row.{Row}
-use Rattle.kd_server.specs.Keeping.{StepsTo}
+use Rattle.kd_server.specs.Server.{StepsTo}
 use Rattle.kd_server.specs.Turn.{IsTurn}
 
 pub stepped : (config : Configuration) (ports : Ports) (rows : List Row) (event : Event) (now : ℕ) (row : Option Row) (response : Response)

@@ -6,10 +6,10 @@ use Rattle.kd_event.specs.declared.event.Handled.{Handled}
 use Rattle.kd_event.specs.declared.ports.Ports.{Ports}
 use Rattle.kd_keeps.specs.declared.keeps.Keeps.{Ghosts}
 use Rattle.kd_lease.specs.Change.{after}
-use Rattle.kd_replay.specs.declared.fault.ServeFault.{ServeFault}
-use Rattle.kd_replay.specs.declared.fault.ServeFault.TheVariants as faults
+use Rattle.kd_loops.specs.declared.fault.ServeFault.{ServeFault}
+use Rattle.kd_loops.specs.declared.fault.ServeFault.TheVariants as faults
 use Rattle.kd_rows.specs.declared.row.Row.{Row}
-use Rattle.kd_server.specs.Keeping.{HasHeader, Keeping, Refuses, StepsTo}
+use Rattle.kd_server.specs.Server.{HasHeader, ServerState, Refuses, StepsTo}
 use Rattle.kd_server.specs.Unkept.{IsUnkept}
 use Rattle.kd_server.proofs.Headed.{message_headed}
 
@@ -19,7 +19,7 @@ headed config ports rows new event handled step changed =
     ⊎_elim (λ t. absurd (changed t.table)) (λ t. message_headed event.bytes t.message t.reads) step.done
 
 -- a row that is not kept means that the event is refused
-pub refused : {S : Type 0} (g : Ghosts S) (old : Keeping S) (event : Event) (row : Option Row) (handled : Handled) (fault : ServeFault) (rows : List Row) (store : S)
+pub refused : {S : Type 0} (g : Ghosts S) (old : ServerState S) (event : Event) (row : Option Row) (handled : Handled) (fault : ServeFault) (rows : List Row) (store : S)
     → is_some (g.fault old.store) ≡ false → StepsTo old.config old.ports old.rows event handled (after old.rows row) → IsUnkept g old.rows rows old.store store (after old.rows row) fault
     → Refuses g old event fault (record { ports = old.ports; config = old.config; rows = rows; store = store })
 refused g old event row handled faults.MomentTooLarge rows store works step unkept = absurd unkept
@@ -41,7 +41,7 @@ refused g old event row handled (faults.Store fault) rows store works step unkep
 refused g old event row handled faults.Failed rows store works step unkept = absurd unkept
 
 -- an event is refused because its row is not kept
-pub refused_if : {S : Type 0} (g : Ghosts S) (old : Keeping S) (event : Event) (row : Option Row) (handled : Handled) (result : Result Handled ServeFault) (rows : List Row) (store : S)
+pub refused_if : {S : Type 0} (g : Ghosts S) (old : ServerState S) (event : Event) (row : Option Row) (handled : Handled) (result : Result Handled ServeFault) (rows : List Row) (store : S)
     → is_some (g.fault old.store) ≡ false → StepsTo old.config old.ports old.rows event handled (after old.rows row) → IfErr result (IsUnkept g old.rows rows old.store store (after old.rows row))
     → IfErr result (λ fault. Refuses g old event fault (record { ports = old.ports; config = old.config; rows = rows; store = store }))
 refused_if g old event row handled (Ok h) rows store works step unkept = tt

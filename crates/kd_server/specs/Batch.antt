@@ -4,11 +4,11 @@ use Rattle.kd_event.specs.declared.event.Event.{Event}
 use Rattle.kd_event.specs.declared.event.Handled.{Handled}
 use Rattle.kd_keeps.specs.declared.fault.StoreFault.{StoreFault}
 use Rattle.kd_keeps.specs.declared.keeps.Keeps.{Ghosts}
-use Rattle.kd_replay.specs.History.{History, Runs}
-use Rattle.kd_replay.specs.declared.fault.ServeFault.{ServeFault}
-use Rattle.kd_replay.specs.declared.fault.ServeFault.TheVariants as faults
+use Rattle.kd_loops.specs.History.{History, Runs}
+use Rattle.kd_loops.specs.declared.fault.ServeFault.{ServeFault}
+use Rattle.kd_loops.specs.declared.fault.ServeFault.TheVariants as faults
 use Rattle.kd_rows.specs.declared.row.Row.{Row}
-use Rattle.kd_server.specs.Keeping.{HasHeader, Keeping, StepsTo, StillHolds, StoreHolds}
+use Rattle.kd_server.specs.Server.{HasHeader, ServerState, StepsTo, StillHolds, StoreHolds}
 
 -- why an event is not handled, which leaves the rows as they are: its time is 2^40 or more, or
 -- memory ran out, which can happen only once its header is read
@@ -41,8 +41,8 @@ module _ {S : Type 0} (g : Ghosts S) where
 
   -- the first events are handled in their order, up to the end or up to the one with the fault, and
   -- the store holds the rows after them
-  pub record IsCommitted (old : Keeping S) (events : List Event) (list : List Handled)
-      (fault : Option ServeFault) (new : Keeping S) : Type 0 where
+  pub record IsCommitted (old : ServerState S) (events : List Event) (list : List Handled)
+      (fault : Option ServeFault) (new : ServerState S) : Type 0 where
     pub worked : is_some (g.fault old.store) ≡ false
     pub ports : new.ports ≡ old.ports
     pub config : new.config ≡ old.config
@@ -51,8 +51,8 @@ module _ {S : Type 0} (g : Ghosts S) where
 
   -- the store has failed with this fault at the commit of events, the first of which change the
   -- rows: none is answered, and the server's rows are those after the events
-  pub record IsLost (fault : StoreFault) (old : Keeping S) (events : List Event)
-      (list : List Handled) (new : Keeping S) : Type 0 where
+  pub record IsLost (fault : StoreFault) (old : ServerState S) (events : List Event)
+      (list : List Handled) (new : ServerState S) : Type 0 where
     pub worked : is_some (g.fault old.store) ≡ false
     pub ports : new.ports ≡ old.ports
     pub config : new.config ≡ old.config
@@ -66,7 +66,7 @@ module _ {S : Type 0} (g : Ghosts S) where
 
   -- the result of handling events together, by fault: no fault; the fault of the first event that
   -- is not handled, after those that are; the fault of the commit; or the store had failed earlier
-  abbrev pub Batched : Keeping S → List Event → List Handled → Option ServeFault → Keeping S
+  abbrev pub Batched : ServerState S → List Event → List Handled → Option ServeFault → ServerState S
       → Type 0
   Batched old events list None new = IsCommitted old events list None new
   Batched old events list (Some faults.MomentTooLarge) new =

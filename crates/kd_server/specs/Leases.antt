@@ -1,12 +1,12 @@
 -- The leases of a server at some time, and the lines that are printed for them.
 use Rattle.std.specs.Prelude.{◌≡◌, ℕ, ◌^◌, ◌<◌, ◌≤◌, max, Bool, true, false, nat_lt, List, ◌++◌, map, codes, decimal}
-use Rattle.kd_replay.specs.Text.{address_text, bytes_text}
-use Rattle.kd_replay.specs.declared.fault.ServeFault.{ServeFault}
-use Rattle.kd_replay.specs.declared.fault.ServeFault.TheVariants as faults
+use Rattle.kd_loops.specs.declared.fault.ServeFault.{ServeFault}
+use Rattle.kd_loops.specs.declared.fault.ServeFault.TheVariants as faults
 use Rattle.kd_rows.specs.Table.{latest_of}
 use Rattle.kd_rows.specs.declared.row.Row.{Row}
 use Rattle.kd_rows.specs.declared.row.State.{State}
 use Rattle.kd_rows.specs.declared.row.State.TheVariants as states
+use Rattle.kd_text.specs.Text.{address_text, bytes_text}
 use Rattle.kd_server.specs.declared.leases.Lease.{Lease}
 
 -- a row at a time: it is live before its end

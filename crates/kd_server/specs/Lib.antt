@@ -1,5 +1,5 @@
 pub mod Batch
-pub mod Keeping
+pub mod Server
 pub mod Leases
 pub mod Staging
 pub mod Step

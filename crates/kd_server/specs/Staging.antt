@@ -2,8 +2,8 @@
 -- public contract cites them.
 use Rattle.std.specs.Prelude.{◌≡◌, ◌≢◌, ◌⊎◌, List}
 use Rattle.std.specs.List.{All}
-use Rattle.kd_replay.specs.declared.fault.ServeFault.{ServeFault}
-use Rattle.kd_replay.specs.declared.fault.ServeFault.TheVariants as faults
+use Rattle.kd_loops.specs.declared.fault.ServeFault.{ServeFault}
+use Rattle.kd_loops.specs.declared.fault.ServeFault.TheVariants as faults
 use Rattle.kd_rows.specs.Row.{IsInRange}
 use Rattle.kd_rows.specs.Table.{with_rows}
 use Rattle.kd_rows.specs.declared.row.Row.{Row}

@@ -5,8 +5,8 @@ use Rattle.kd_event.specs.declared.event.Event.{Event}
 use Rattle.kd_event.specs.declared.event.Handled.{Handled}
 use Rattle.kd_event.specs.declared.ports.Ports.{Ports}
 use Rattle.kd_rows.specs.declared.row.Row.{Row}
-use Rattle.kd_server.specs.Keeping.{StepsTo}
-use Rattle.kd_server.specs.declared.batching.Rules.{Rules}
+use Rattle.kd_server.specs.Server.{StepsTo}
+use Rattle.kd_server.specs.declared.terms.Terms.{Terms}
 
 -- what contracts see of a trial: its ports, its configuration and its rows
 pub record Trying : Type 0 where
@@ -14,10 +14,10 @@ pub record Trying : Type 0 where
   pub config : Configuration
   pub rows : List Row
 
--- a trial by these rules, with these rows
-abbrev pub trying : Rules → List Row → Trying
-trying rules rows =
-    record { ports = rules.ports; config = rules.config.now; rows = rows }
+-- a trial on these terms, with these rows
+abbrev pub trying : Terms → List Row → Trying
+trying terms rows =
+    record { ports = terms.ports; config = terms.config.now; rows = rows }
 
 -- the same trial with other rows
 abbrev pub at_rows : Trying → List Row → Trying

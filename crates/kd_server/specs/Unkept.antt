@@ -2,12 +2,12 @@
 -- contract cites them.
 use Rattle.std.specs.Prelude.{◌≡◌, ◌≢◌, ◌≤◌, List}
 use Rattle.kd_keeps.specs.declared.keeps.Keeps.{Ghosts}
-use Rattle.kd_replay.specs.declared.fault.ServeFault.{ServeFault}
-use Rattle.kd_replay.specs.declared.fault.ServeFault.TheVariants as faults
+use Rattle.kd_loops.specs.declared.fault.ServeFault.{ServeFault}
+use Rattle.kd_loops.specs.declared.fault.ServeFault.TheVariants as faults
 use Rattle.kd_rows.specs.Row.{IsInRange}
 use Rattle.kd_rows.specs.Table.{latest_of}
 use Rattle.kd_rows.specs.declared.row.Row.{Row}
-use Rattle.kd_server.specs.Keeping.{Loses}
+use Rattle.kd_server.specs.Server.{Loses}
 
 -- a row that may be set: no row has a later change, and its times are in range
 pub record IsSettable (rows : List Row) (row : Row) : Type 0 where

@@ -1,35 +1,23 @@
 ghost use Rattle.std.specs.Prelude.{◌≡◌, ◌≢◌, ◌+◌, ◌≤◌, ◌⊎◌, ◌∷◌, ◌++◌, [], List, IfErr, IfOk, IfSome, OnErr, OnOk, false, is_some, length, vec_capacity, vec_len};
 ghost use Rattle.std.specs.List.{All};
 ghost use Rattle.kd_lease.specs.Change.{after};
-ghost use Rattle.kd_replay.specs.History.{Runs};
-ghost use Rattle.kd_replay.specs.Text.{IsSmall};
+ghost use Rattle.kd_loops.specs.History.{Runs};
+ghost use Rattle.kd_loops.specs.Text.{IsSmall};
 ghost use Rattle.kd_rows.specs.Row.{IsInRange};
 ghost use Rattle.kd_rows.specs.Table.{with_row, with_rows};
 ghost use Rattle.kd_rows.specs.declared.row.Row.{Row as LeaseRow};
 ghost use Rattle.kd_server.specs.Batch.{FailsToKeep, IsChangedBy, LeavesOut};
-ghost use Rattle.kd_server.specs.Keeping.{StepsTo, StillHolds};
+ghost use Rattle.kd_server.specs.Server.{StepsTo, StillHolds};
 ghost use Rattle.kd_server.specs.Staging.{IsUnset, Stages};
 ghost use Rattle.kd_server.specs.Unkept.{IsSettable};
 
 use crate::turning::step;
-use kd_config::Config;
 use kd_event::{Handled, Ports};
 use kd_keeps::{Keeps, StoreFault};
 use kd_lease::Leases;
-use kd_replay::{Arrived, ServeFault};
+use kd_loops::{Arrived, ServeFault};
 use kd_rows::Row;
 use std::alloc::{AllocError, Global};
-
-/// What a server works with: its allocator, its ports and its configuration.
-#[derive(Clone, Copy)]
-pub struct Rules<'a> {
-    /// The allocator that memory comes from.
-    pub alloc: Global,
-    /// The ports that replies go to.
-    pub ports: Ports,
-    /// The configuration.
-    pub config: &'a Config,
-}
 
 // Handles events in order, up to the first fault. Sets the rows that they change, and lists those
 // rows to be committed.

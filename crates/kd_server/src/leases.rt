@@ -1,11 +1,12 @@
-ghost use Rattle.std.specs.Prelude.{◌≡◌, ◌<◌, ◌^◌, ◌++◌, false, nat_lt, IfErr, IfOk, OnOk, map, codes, string_bytes};
+ghost use Rattle.std.specs.Prelude.{◌≡◌, ◌<◌, ◌^◌, ◌++◌, false, IfErr, IfOk, OnOk, map, max, codes, string_bytes};
 ghost use Rattle.std.specs.Fmt.{decimal};
 ghost use Rattle.std.specs.List.{flat_map};
+ghost use Rattle.kd_rows.specs.Table.{latest_of};
 ghost use Rattle.kd_server.specs.Leases.{IsNoList, lease_of_row, lease_line, leases_of_rows, row_text, word_of_live, word_of_state};
 
-use crate::server::MOMENTS;
-use kd_replay::{ServeFault, put_address, put_bytes};
-use kd_rows::{Row, Rows, State};
+use kd_loops::ServeFault;
+use kd_rows::{MOMENTS, Row, Rows, State};
+use kd_text::{put_address, put_bytes};
 use std::alloc::{AllocError, Global};
 use std::fmt::Write;
 
@@ -36,14 +37,28 @@ pub fn leases_at(
     ensures works { IfOk result (λ list. (failed ≡ false) × (moment < 2 ^ 40)) }
     ensures fault { IfErr result (IsNoList failed moment) }
 {
+    let now = time_of_look(rows, failed, moment)?;
+    Ok(leases_of(alloc, rows, now)?)
+}
+
+/// Returns the time as of which rows are shown at a time in whole seconds, if their store has not
+/// failed: a time before the latest change counts as the time of that change.
+///
+/// # Errors
+///
+/// `Failed` if the store has failed, and `MomentTooLarge` if the time is not below 2^40.
+pub fn time_of_look(rows: &Rows, failed: bool, moment: u64) -> Result<u64, ServeFault>
+    ensures time { IfOk result (λ now. now ≡ max moment (latest_of rows.now.rows)) }
+    ensures works { IfOk result (λ now. (failed ≡ false) × (moment < 2 ^ 40)) }
+    ensures fault { IfErr result (IsNoList failed moment) }
+{
     if failed {
         return Err(ServeFault::Failed);
     }
     if moment >= MOMENTS {
         return Err(ServeFault::MomentTooLarge);
     }
-    let now = moment.max(rows.latest());
-    Ok(leases_of(alloc, rows, now)?)
+    Ok(moment.max(rows.latest()))
 }
 
 // The rows at a time that is not before their latest change.
@@ -65,7 +80,7 @@ fn lease_at(alloc: Global, row: &Row, now: u64) -> Result<Lease, AllocError>
 {
     Ok(Lease {
         row: row.try_clone(alloc)?,
-        live: now < row.ends,
+        live: row.is_live(now),
     })
 }
 

@@ -2,19 +2,20 @@
 //!
 //! What this layer promises to the one above: the server answers an event as the history of events
 //! says, by the rules of `kd_lease`, over its configuration and its rows, and its store keeps those
-//! rows (`specs/Keeping.antt`). `run` and `replay` are those of `kd_replay`, over this server. What
+//! rows (`specs/Server.antt`). `run` and `replay` are those of `kd_loops`, over this server. What
 //! follows for histories of events is in `kd_laws`.
 #![tactic(auto)]
 
 mod batching;
 mod leases;
 mod server;
+mod terms;
 mod trial;
 mod turning;
 
-pub use batching::Rules;
 pub use kd_event::{Event, Handled, Ports, Reason, Response};
-pub use kd_replay::{EndFailed, LoopFault, ReplayFault, ServeFault, Sink, Source, replay, serve};
-pub use leases::{Lease, lease_lines, leases_at, put_row};
+pub use kd_loops::{EndFailed, LoopFault, ReplayFault, ServeFault, Sink, Source, replay, serve};
+pub use leases::{Lease, lease_lines, leases_at, put_row, time_of_look};
 pub use server::Server;
+pub use terms::Terms;
 pub use trial::Trial;

@@ -4,13 +4,13 @@ ghost use Rattle.kd_config.specs.Sound.{IsSound};
 ghost use Rattle.kd_keeps.specs.Reading.{AreRead};
 ghost use Rattle.kd_lease.specs.Change.{after};
 ghost use Rattle.kd_lease.specs.Rules.{IsSetAt};
-ghost use Rattle.kd_replay.specs.History.{Runs};
-ghost use Rattle.kd_replay.specs.Text.{IsSmall};
-ghost use Rattle.kd_replay.specs.declared.fault.ServeFault.TheVariants as faults;
+ghost use Rattle.kd_loops.specs.History.{Runs};
+ghost use Rattle.kd_loops.specs.Text.{IsSmall};
+ghost use Rattle.kd_loops.specs.declared.fault.ServeFault.TheVariants as faults;
 ghost use Rattle.kd_rows.specs.Row.{IsInRange};
 ghost use Rattle.kd_rows.specs.Table.{Rise, latest_of, with_row};
 ghost use Rattle.kd_server.specs.Batch.{Batched};
-ghost use Rattle.kd_server.specs.Keeping.{IsUnopened, Opens, Refuses, Steps, StillHolds};
+ghost use Rattle.kd_server.specs.Server.{IsUnopened, Opens, Refuses, Steps, StillHolds};
 ghost use Rattle.kd_server.specs.Leases.{IsNoList, leases_of_rows};
 ghost use Rattle.kd_server.specs.Unkept.{IsSettable, IsUnkept};
 
@@ -21,7 +21,7 @@ use kd_config::Config;
 use kd_event::{Event, Handled, Ports};
 use kd_keeps::{Keeps, Opened};
 use kd_lease::Leases;
-use kd_replay::{Arrived, ServeFault, Serves, ServesAll, run_with};
+use kd_loops::{Arrived, ServeFault, Serves, ServesAll, run_with};
 use kd_rows::{Row, Rows};
 use std::alloc::Global;
 use std::marker::Model;
@@ -36,9 +36,9 @@ pub struct Server<S: Keeps> {
 }
 
 impl<S: Keeps> Model for Server<S> {
-    ghost use Rattle.kd_server.specs.Keeping.{Keeping};
+    ghost use Rattle.kd_server.specs.Server.{ServerState};
 
-    ghost Value = { Keeping S };
+    ghost Value = { ServerState S };
 
     ghost view = { λ s.
         record {
@@ -48,9 +48,6 @@ impl<S: Keeps> Model for Server<S> {
           store = s.store;
         } };
 }
-
-// Every time that the server accepts is below this, 2^40 seconds.
-pub(crate) const MOMENTS: u64 = 0x100_0000_0000;
 
 impl<S: Keeps> Server<S> {
     /// Opens a server with these ports and this configuration, over the leases of this store.
@@ -235,7 +232,7 @@ impl<S: Keeps> Server<S> {
 
 impl<S: Keeps> ServesAll for Server<S> {
     ghost use Rattle.kd_server.specs.Batch.{Batched};
-    ghost use Rattle.kd_server.specs.Keeping.{latest_in};
+    ghost use Rattle.kd_server.specs.Server.{latest_in};
 
     ghost latest = { latest_in };
 
@@ -251,7 +248,7 @@ impl<S: Keeps> ServesAll for Server<S> {
 }
 
 impl<S: Keeps> Serves for Server<S> {
-    ghost use Rattle.kd_server.specs.Keeping.{Refuses, Steps};
+    ghost use Rattle.kd_server.specs.Server.{Refuses, Steps};
 
     ghost gives = { Steps S.Keeps };
 

@@ -1,25 +1,25 @@
 ghost use Rattle.std.specs.Prelude.{◌≡◌, ◌<◌, ◌^◌, IfErr, IfOk, IfSome, OnOk};
 ghost use Rattle.kd_lease.specs.Change.{after};
-ghost use Rattle.kd_replay.specs.Text.{IsSmall};
+ghost use Rattle.kd_loops.specs.Text.{IsSmall};
 ghost use Rattle.kd_server.specs.Batch.{LeavesOut};
 ghost use Rattle.kd_rows.specs.Table.{with_row};
 ghost use Rattle.kd_server.specs.Staging.{IsUnset};
 ghost use Rattle.kd_server.specs.Trial.{TriesStep, WouldAnswer, at_rows, trying};
 ghost use Rattle.kd_server.specs.Unkept.{IsSettable};
 
-use crate::batching::Rules;
+use crate::terms::Terms;
 use crate::turning::step;
 use kd_event::Handled;
 use kd_lease::Ground;
-use kd_replay::ServeFault;
+use kd_loops::ServeFault;
 use kd_rows::{Row, Rows};
 use std::alloc::{AllocError, Global};
 use std::marker::Model;
 
-/// A server that keeps nothing: it finds out what a server with these rules would do.
+/// A server that keeps nothing: it finds out what a server on these terms would do.
 #[derive(Drop)]
 pub struct Trial<'a> {
-    rules: Rules<'a>,
+    terms: Terms<'a>,
     rows: Rows,
 }
 
@@ -30,7 +30,7 @@ impl<'a> Model for Trial<'a> {
 
     ghost Value = { Trying };
 
-    ghost view = { λ t. trying t.rules t.rows.rows };
+    ghost view = { λ t. trying t.terms t.rows.rows };
 }
 
 impl<'a> Trial<'a> {
@@ -39,18 +39,18 @@ impl<'a> Trial<'a> {
     /// # Errors
     ///
     /// Out of memory.
-    pub fn over(rules: Rules<'a>, rows: &Rows) -> Result<Trial<'a>, AllocError>
-        ensures { IfOk result (λ t. t ≡ trying rules.entry rows.now.rows) }
+    pub fn over(terms: Terms<'a>, rows: &Rows) -> Result<Trial<'a>, AllocError>
+        ensures { IfOk result (λ t. t ≡ trying terms.entry rows.now.rows) }
     {
-        let rows = copy_rows(rules.alloc, rows)?;
-        Ok(Trial { rules, rows })
+        let rows = copy_rows(terms.alloc, rows)?;
+        Ok(Trial { terms, rows })
     }
 
-    /// Returns the rules of the trial.
-    pub fn rules(&self) -> Rules<'a>
+    /// Returns the terms of the trial.
+    pub fn terms(&self) -> Terms<'a>
         ensures { trying result self.now.rows ≡ self.now }
     {
-        self.rules
+        self.terms
     }
 
     /// Returns the rows of leases, including those that have ended.
@@ -75,18 +75,18 @@ impl<'a> Trial<'a> {
             (record { moment = moment; bytes = bytes.now }) fault self.new.rows) }
         ensures same { self.new ≡ at_rows self.old self.new.rows }
     {
-        let Rules {
+        let Terms {
             alloc,
             ports,
             config,
-        } = self.rules;
+        } = self.terms;
         let (row, handled) = step(alloc, ports, Ground::of(config, &self.rows), moment, bytes)?;
         put(&mut self.rows, row)?;
         Ok(handled)
     }
 }
 
-impl Rules<'_> {
+impl Terms<'_> {
     /// Returns what `Server::handle` would answer, over these rows, to a datagram that arrived at
     /// this time, in whole seconds. Nothing is changed.
     ///

@@ -3,19 +3,18 @@ ghost use Rattle.kd_lease.specs.Change.{after};
 ghost use Rattle.kd_lease.specs.Decided.{IsAnswerTo, outcome_in};
 ghost use Rattle.kd_lease.specs.Rules.{IsSetAt};
 ghost use Rattle.kd_options.specs.Reply.{ItemsFit};
-ghost use Rattle.kd_replay.specs.Text.{IsSmall};
+ghost use Rattle.kd_loops.specs.Text.{IsSmall};
 ghost use Rattle.kd_server.specs.Batch.{LeavesOut};
-ghost use Rattle.kd_server.specs.Keeping.{HasHeader, StepsTo};
+ghost use Rattle.kd_server.specs.Server.{HasHeader, StepsTo};
 ghost use Rattle.kd_server.specs.Step.{Responds};
 ghost use Rattle.kd_server.specs.Turn.{IsSent, IsTurn, Turns};
 ghost use Rattle.kd_server.specs.Unkept.{IsSettable};
 
-use crate::server::MOMENTS;
 use kd_event::{Handled, Ports, Reason, Response};
 use kd_lease::{Ground, Plan, Verdict, decide_on, destination};
+use kd_loops::ServeFault;
 use kd_options::{Message, ReadFault, WriteFault};
-use kd_replay::ServeFault;
-use kd_rows::Row;
+use kd_rows::{MOMENTS, Row};
 use kd_wire::Bytes;
 use std::alloc::{AllocError, Global};
 

@@ -4,12 +4,12 @@ use Rattle.std.proofs.Common.{◌≡◌, ℕ, suc, ◌+◌, ◌<◌, arith, List
 use Rattle.std.proofs.lemmas.List.{length-append}
 use Rattle.kd_event.specs.declared.event.Event.{Event}
 use Rattle.kd_event.specs.declared.event.Handled.{Handled}
-use Rattle.kd_replay.specs.History.{History}
-use Rattle.kd_replay.specs.Lines.{lines_of}
-use Rattle.kd_replay.specs.Replay.{AreEvents, Did, Ends, FirstLineIs, IsNoEvent, LineFails, Replays, most_lines}
-use Rattle.kd_replay.specs.declared.fault.ReplayFault.{ReplayFault}
-use Rattle.kd_replay.specs.declared.fault.ReplayFault.TheVariants as faults
-use Rattle.kd_replay.specs.declared.fault.ServeFault.{ServeFault}
+use Rattle.kd_loops.specs.History.{History}
+use Rattle.kd_loops.specs.Lines.{lines_of}
+use Rattle.kd_loops.specs.Replay.{AreEvents, Did, Ends, FirstLineIs, IsNoEvent, LineFails, Replays, most_lines}
+use Rattle.kd_loops.specs.declared.fault.ReplayFault.{ReplayFault}
+use Rattle.kd_loops.specs.declared.fault.ReplayFault.TheVariants as faults
+use Rattle.kd_loops.specs.declared.fault.ServeFault.{ServeFault}
 use Rattle.kd_server.specs.Trial.{TriesStep, Trying}
 use Rattle.kd_why.specs.Inquiring.{Inquiring, IsBadAt, IsEarlier, IsEnding, IsExplainedAt, IsLineAt, IsNotExplained, IsUnsaidAt, ending_fault}
 

@@ -103,30 +103,7 @@ none_left place names [] h = refl
 none_left place names (s ∷ left) h = absurd (omega (arith, h))
 
 module _ (place : ℕ) (names : List (List ℕ)) (s : Subnet) (subnets : List Subnet) where
-  -- the lines of subnets, the first of which serves
-  pub served_first : served_by place names s ≡ true → sought_lines place names (s ∷ subnets) ≡ sought_line s (codes " serves") ++ flat_map unasked_line subnets
-  unfolding sought_lines
-  served_first is = ap (λ b. if b then sought_line s (codes " serves") ++ flat_map unasked_line subnets else sought_line s (passed_words place s) ++ sought_lines place names subnets) is
-
-  -- and the first of which does not
+  -- the lines of subnets, the first of which does not serve
   pub passed_first : served_by place names s ≡ false → sought_lines place names (s ∷ subnets) ≡ sought_line s (passed_words place s) ++ sought_lines place names subnets
   unfolding sought_lines
   passed_first is = ap (λ b. if b then sought_line s (codes " serves") ++ flat_map unasked_line subnets else sought_line s (passed_words place s) ++ sought_lines place names subnets) is
-
-module _ (q : Asking) (rule : Rule) (a : Option ℕ) (line : Check × Ending) (lines : List (Check × Ending)) where
-  -- the lines of the checks that are made, if the first is passed
-  pub made_more : fails q a line ≡ false → made_lines q rule a (line ∷ lines) ≡ rule_line q rule a line.0 ++ made_lines q rule a lines
-  unfolding made_lines
-  made_more is = ap (λ b. rule_line q rule a line.0 ++ flat_map (λ l. rule_line q rule a l.0) (if b then [] else made q a lines)) is
-
-  -- and if it is not
-  pub made_last : fails q a line ≡ true → made_lines q rule a (line ∷ lines) ≡ rule_line q rule a line.0
-  unfolding made_lines
-  made_last is =
-      ap (λ b. rule_line q rule a line.0 ++ flat_map (λ l. rule_line q rule a l.0) (if b then [] else made q a lines)) is ∙ append-nil (rule_line q rule a line.0)
-
--- no checks remain to be made
-pub made_none : (q : Asking) (rule : Rule) (a : Option ℕ) (left : List (Check × Ending)) → length left < 1 → made_lines q rule a left ≡ []
-unfolding made_lines
-made_none q rule a [] h = refl
-made_none q rule a (line ∷ left) h = absurd (omega (arith, h))

@@ -19,10 +19,10 @@ use Rattle.kd_names.specs.Values.{message_type_word}
 use Rattle.kd_options.specs.Kind.{type_number}
 use Rattle.kd_options.specs.Message.{Seen}
 use Rattle.kd_options.specs.declared.kind.MessageType.{MessageType}
-use Rattle.kd_replay.specs.Text.{address_text, prefix_text}
 use Rattle.kd_rows.specs.Table.{row_at}
 use Rattle.kd_rows.specs.declared.row.Row.{Row}
 use Rattle.kd_server.specs.Leases.{row_text, word_of_live}
+use Rattle.kd_text.specs.Text.{address_text, prefix_text}
 use Rattle.kd_why.specs.Words.{yes_word}
 
 -- ---- a line each

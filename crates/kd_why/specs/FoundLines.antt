@@ -22,7 +22,7 @@ use Rattle.kd_names.specs.Values.{message_type_word}
 use Rattle.kd_options.specs.Kind.{type_number}
 use Rattle.kd_options.specs.Message.{Seen, mac_of}
 use Rattle.kd_options.specs.declared.kind.MessageType.TheVariants as types
-use Rattle.kd_replay.specs.Text.{address_text, bytes_text, prefix_text}
+use Rattle.kd_text.specs.Text.{address_text, bytes_text, prefix_text}
 use Rattle.kd_wire.specs.declared.header.Header.{Header}
 use Rattle.kd_why.specs.declared.explaining.Explanation.{Explanation}
 use Rattle.kd_why.specs.Words.{address_word, bytes_word, name_text, truth_word, unless_zero}

@@ -2,13 +2,13 @@
 use Rattle.std.specs.Prelude.{◌≡◌, ◌⊎◌, ◌+◌, ◌≤◌, ◌<◌, ◌++◌, ◌∷◌, ℕ, List, Option, Some, Result, Ok, Err, length}
 use Rattle.kd_event.specs.declared.event.Event.{Event}
 use Rattle.kd_event.specs.declared.event.Handled.{Handled}
-use Rattle.kd_replay.specs.History.{History}
-use Rattle.kd_replay.specs.Lines.{IsEventLine, lines_of}
-use Rattle.kd_replay.specs.Replay.{AreEvents, IsNoEvent, most_lines}
-use Rattle.kd_replay.specs.declared.fault.ReplayFault.{ReplayFault}
-use Rattle.kd_replay.specs.declared.fault.ReplayFault.TheVariants as faults
-use Rattle.kd_replay.specs.declared.fault.ServeFault.{ServeFault}
-use Rattle.kd_replay.specs.declared.fault.ServeFault.TheVariants as serving
+use Rattle.kd_loops.specs.History.{History}
+use Rattle.kd_loops.specs.Lines.{IsEventLine, lines_of}
+use Rattle.kd_loops.specs.Replay.{AreEvents, IsNoEvent, most_lines}
+use Rattle.kd_loops.specs.declared.fault.ReplayFault.{ReplayFault}
+use Rattle.kd_loops.specs.declared.fault.ReplayFault.TheVariants as faults
+use Rattle.kd_loops.specs.declared.fault.ServeFault.{ServeFault}
+use Rattle.kd_loops.specs.declared.fault.ServeFault.TheVariants as serving
 use Rattle.kd_server.specs.Trial.{TriesStep, Trying}
 use Rattle.kd_why.specs.Saying.{ExplainsEvent, IsUnsaid}
 

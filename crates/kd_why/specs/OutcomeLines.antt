@@ -13,9 +13,9 @@ use Rattle.kd_options.specs.Joined.{value_of}
 use Rattle.kd_options.specs.Message.{Reads, Seen}
 use Rattle.kd_options.specs.Reply.{reply_text}
 use Rattle.kd_options.specs.declared.item.Item.{Item}
-use Rattle.kd_replay.specs.Text.{address_text, bytes_text}
 use Rattle.kd_rows.specs.declared.row.Row.{Row}
 use Rattle.kd_server.specs.Leases.{row_text}
+use Rattle.kd_text.specs.Text.{address_text, bytes_text}
 use Rattle.kd_why.specs.Origins.{IsOrigin}
 use Rattle.kd_why.specs.Words.{name_text}
 use Rattle.kd_why.specs.declared.explaining.Explanation.{Explanation}

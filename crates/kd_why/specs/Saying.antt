@@ -8,9 +8,9 @@ use Rattle.kd_options.specs.Faults.{read_fault_number}
 use Rattle.kd_options.specs.Message.{IsFirstFault, Reads, Seen}
 use Rattle.kd_options.specs.declared.fault.ReadFault.{ReadFault}
 use Rattle.kd_options.specs.declared.fault.ReadFault.TheVariants as reading
-use Rattle.kd_replay.specs.Text.{line_of}
-use Rattle.kd_replay.specs.declared.fault.ServeFault.{ServeFault}
-use Rattle.kd_replay.specs.declared.fault.ServeFault.TheVariants as faults
+use Rattle.kd_loops.specs.Text.{line_of}
+use Rattle.kd_loops.specs.declared.fault.ServeFault.{ServeFault}
+use Rattle.kd_loops.specs.declared.fault.ServeFault.TheVariants as faults
 use Rattle.kd_rows.specs.declared.row.Row.{Row}
 use Rattle.kd_server.specs.Trial.{Trying, WouldAnswer}
 use Rattle.kd_why.specs.CheckLines.{TellsChecks, TellsClient}

@@ -2,7 +2,7 @@
 use Rattle.std.specs.Prelude.{ℕ, ◌==◌, ◌&&◌, not, nat_le, Bool, if◌then◌else◌, List, [], ◌∷◌, ◌++◌, Option, Some, None, codes}
 use Rattle.std.specs.List.{flat_map}
 use Rattle.hex.specs.Hex.{encode_lower}
-use Rattle.kd_replay.specs.Text.{address_text, bytes_text}
+use Rattle.kd_text.specs.Text.{address_text, bytes_text}
 
 -- an address
 abbrev pub address_word : Option ℕ → List ℕ

@@ -1,8 +1,8 @@
 ghost use Rattle.std.specs.Prelude.{◌≡◌, ◌++◌, OnOk, Some, codes, option_copied, string_bytes};
 ghost use Rattle.kd_lease.specs.Choice.{address_reserved, pooled, reserved_anywhere, same_address};
 ghost use Rattle.kd_lease.specs.Rules.{asking, passes, passes_in, serving_subnet};
-ghost use Rattle.kd_replay.specs.Text.{address_text};
 ghost use Rattle.kd_server.specs.Leases.{word_of_live};
+ghost use Rattle.kd_text.specs.Text.{address_text};
 ghost use Rattle.kd_why.specs.CheckLines.{address_line, address_source, fit_words, fits_line, free_line, held_line, known_line, offer_line, owner_line};
 ghost use Rattle.kd_why.specs.CheckLines.{place_words, pool_word, prefix_line, renewed_source, reserved_word, row_line_at, row_words};
 ghost use Rattle.kd_why.specs.CheckLines.{sender_line, served_line, served_word, server_line, which_word};
@@ -11,9 +11,9 @@ use crate::words::{type_name, yes_or_no};
 use kd_config::Subnet;
 use kd_lease::{Matter, Question, Rule, in_pools, is_reserved, reservation_of};
 use kd_options::Message;
-use kd_replay::{put_address, put_prefix};
 use kd_rows::Row;
 use kd_server::put_row;
+use kd_text::{put_address, put_prefix};
 use std::alloc::{AllocError, Global};
 use std::fmt::Write;
 

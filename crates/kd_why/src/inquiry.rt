@@ -4,13 +4,13 @@ ghost use Rattle.kd_why.specs.Inquiring.{IsExplainedAt, IsNotExplained, IsReache
 
 use crate::why::why_text;
 use kd_event::Handled;
-use kd_replay::{MemorySink, ReplayFault, ServeFault, Serves, Source, replay};
+use kd_loops::{MemorySink, ReplayFault, ServeFault, Serves, Source, replay};
 use kd_rows::Rows;
-use kd_server::{Rules, Trial};
+use kd_server::{Terms, Trial};
 use std::marker::Model;
 
 /// Explains the event of a line of an input, over the rows that the events of the lines before it
-/// leave. Those events are handled by these rules, starting from these rows, which are not changed.
+/// leave. Those events are handled on these terms, starting from these rows, which are not changed.
 /// Lines are counted from 1.
 ///
 /// # Errors
@@ -19,27 +19,27 @@ use std::marker::Model;
 /// the input has no such line.
 pub fn why_line<R: Source>(
     source: &mut R,
-    rules: Rules<'_>,
+    terms: Terms<'_>,
     rows: &Rows,
     number: u64,
 ) -> Result<Vec<u8>, ReplayFault>
     requires source { R.has_failed source.old ≡ false }
     ensures explained { (input : List ℕ) → R.remaining source.old ≡ Some input
         → MatchResult result
-        (λ text. IsExplainedAt (trying rules.entry rows.now.rows) input number text.items)
-        (IsNotExplained (R.has_failed source.new ≡ true) (trying rules.entry rows.now.rows) input
+        (λ text. IsExplainedAt (trying terms.entry rows.now.rows) input number text.items)
+        (IsNotExplained (R.has_failed source.new ≡ true) (trying terms.entry rows.now.rows) input
         number) }
 {
     let Some(left) = number.checked_sub(1) else {
         return Err(ReplayFault::BadLine(0));
     };
-    let mut sink = MemorySink::new(rules.alloc);
+    let mut sink = MemorySink::new(terms.alloc);
     let mut inquiry = Inquiry {
-        trial: Trial::over(rules, rows)?,
+        trial: Trial::over(terms, rows)?,
         left,
         text: None,
     };
-    let done = replay(rules.alloc, source, &mut sink, &mut inquiry);
+    let done = replay(terms.alloc, source, &mut sink, &mut inquiry);
     let Inquiry { text, .. } = inquiry;
     match text {
         Some(text) => Ok(text),
@@ -85,7 +85,7 @@ impl Inquiry<'_> {
         ensures reached { IsReached self.old (record { moment = moment; bytes = bytes.now }) result
             self.new }
     {
-        match why_text(self.trial.rules(), self.trial.rows(), moment, bytes) {
+        match why_text(self.trial.terms(), self.trial.rows(), moment, bytes) {
             Ok(text) => {
                 self.text = Some(text);
                 ServeFault::Failed

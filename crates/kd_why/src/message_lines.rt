@@ -8,7 +8,7 @@ use crate::text::Scene;
 use crate::words::{nonzero_address, put_address_or_dash, type_name};
 use kd_lease::{requested_of, server_of};
 use kd_options::Message;
-use kd_replay::put_bytes;
+use kd_text::put_bytes;
 use kd_wire::{Bytes, Header};
 use std::alloc::{AllocError, Global};
 use std::fmt::Write;

@@ -1,5 +1,5 @@
 ghost use Rattle.std.specs.Prelude.{◌≡◌, ◌++◌, ℕ, IfOk, List, OnOk, Some, codes, decimal, option_copied, string_bytes};
-ghost use Rattle.kd_replay.specs.Text.{bytes_text};
+ghost use Rattle.kd_text.specs.Text.{bytes_text};
 ghost use Rattle.kd_why.specs.OutcomeLines.{AreOptionLines, AreOptionsOf, IsConfiguredWord, IsSentLine, IsSourceWord};
 ghost use Rattle.kd_why.specs.OutcomeLines.{origin_class, options_address, origin_word, required_word, room_word, written};
 
@@ -11,7 +11,7 @@ use kd_config::Subnet;
 use kd_lease::{Plan, PlanKind};
 use kd_options::codes::{OPTION_CLIENT_IDENTIFIER, OPTION_RELAY_INFORMATION};
 use kd_options::{Item, Message};
-use kd_replay::put_bytes;
+use kd_text::put_bytes;
 use std::alloc::{AllocError, Global};
 use std::fmt::Write;
 

@@ -1,14 +1,14 @@
 ghost use Rattle.std.specs.Prelude.{◌≡◌, ◌++◌, ℕ, List, OnOk, codes, string_bytes};
-ghost use Rattle.kd_replay.specs.Text.{address_text};
+ghost use Rattle.kd_text.specs.Text.{address_text};
 ghost use Rattle.kd_why.specs.OutcomeLines.{AreOptionsOf, IsEndText, silence_line, ends_line, row_word, set_line};
 
 use crate::option_lines::put_options;
 use crate::text::Scene;
 use kd_event::Reason;
 use kd_lease::{Plan, PlanKind};
-use kd_replay::put_address;
 use kd_rows::Row;
 use kd_server::put_row;
+use kd_text::put_address;
 use std::alloc::{AllocError, Global};
 use std::fmt::Write;
 

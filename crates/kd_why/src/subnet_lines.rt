@@ -1,14 +1,14 @@
 ghost use Rattle.std.specs.Prelude.{◌≡◌, ◌++◌, OnOk, codes, option_copied, string_bytes};
 ghost use Rattle.std.specs.List.{flat_map};
-ghost use Rattle.kd_lease.specs.SubnetOf.{class_admits, message_place, served_by};
+ghost use Rattle.kd_lease.specs.SubnetOf.{message_place};
 ghost use Rattle.kd_why.specs.FoundLines.{class_word, key_word, passed_words, place_line, place_word, reservation_line, reserved_line, sought_line, sought_lines, unasked_line};
 
 use crate::text::Scene;
 use crate::words::put_name;
 use kd_config::{Identity, Reservation, Subnet};
-use kd_lease::place_of;
+use kd_lease::{place_of, serves};
 use kd_machine::Held;
-use kd_replay::{put_address, put_prefix};
+use kd_text::{put_address, put_prefix};
 use kd_wire::{Bytes, Header};
 use std::alloc::{AllocError, Global};
 
@@ -77,7 +77,7 @@ fn put_sought(
 {
     let mut left = subnets;
     while let [subnet, rest @ ..] = left {
-        if serves(sought, subnet) {
+        if serves(sought.place, sought.names, subnet) {
             put_serving(out, subnet)?;
             return put_unasked(out, rest);
         }
@@ -86,22 +86,6 @@ fn put_sought(
     }
     out.push_str("subnet - none serves\n")?;
     Ok(())
-}
-
-// Reports whether the subnet serves this place and a message with these class names.
-fn serves(sought: Sought<'_>, subnet: &Subnet) -> bool
-    ensures { result ≡ served_by sought.entry.place sought.entry.names.now subnet.now }
-{
-    subnet.prefix.contains(sought.place) && admits(&subnet.class, sought.names)
-}
-
-fn admits(class: &Option<Bytes>, names: &Held) -> bool
-    ensures { result ≡ class_admits class.now names.now }
-{
-    match class {
-        Some(class) => names.contains(class.as_slice()),
-        None => true,
-    }
 }
 
 #[tactic(auto, unfolding(crate::specs::FoundLines::sought_line))]

@@ -4,33 +4,33 @@ ghost use Rattle.kd_why.specs.Saying.{ExplainsEvent, IsAccount, IsExplanation, I
 
 use crate::explaining::explain;
 use crate::text::{Scene, put_explanation, put_unreadable};
+use kd_loops::{ServeFault, event_line};
 use kd_options::{Message, ReadFault};
-use kd_replay::{ServeFault, event_line};
 use kd_rows::Rows;
-use kd_server::Rules;
+use kd_server::Terms;
 use std::alloc::AllocError;
 
 /// Explains a datagram at a time, in whole seconds, over rows of leases, which are not changed. The
 /// text has lines about each part, and ends with the line that a replay would write for the answer
-/// of a server with these rules.
+/// of a server on these terms.
 ///
 /// # Errors
 ///
 /// `MomentTooLarge` if the time is not below 2^40, and `Memory` if memory runs out.
 pub fn why_text(
-    rules: Rules<'_>,
+    terms: Terms<'_>,
     rows: &Rows,
     moment: u64,
     bytes: &[u8],
 ) -> Result<Vec<u8>, ServeFault>
-    ensures text { IfOk result (λ text. ExplainsEvent (trying rules.entry rows.now.rows)
+    ensures text { IfOk result (λ text. ExplainsEvent (trying terms.entry rows.now.rows)
         (record { moment = moment; bytes = bytes.now }) text.items) }
     ensures failed { IfErr result (IsUnsaid moment) }
 {
-    let alloc = rules.alloc;
-    let handled = rules.foresee(rows, moment, bytes)?;
+    let alloc = terms.alloc;
+    let handled = terms.foresee(rows, moment, bytes)?;
     let mut out = String::new(alloc);
-    put_account(&mut out, rules, rows, bytes, handled.now)?;
+    put_account(&mut out, terms, rows, bytes, handled.now)?;
     let mut text = out.into_bytes();
     let line = event_line(alloc, &handled)?;
     text.extend_from_slice(&line)?;
@@ -41,37 +41,37 @@ pub fn why_text(
 // no message.
 fn put_account(
     out: &mut String,
-    rules: Rules<'_>,
+    terms: Terms<'_>,
     rows: &Rows,
     bytes: &[u8],
     moment: u64,
 ) -> Result<(), AllocError>
     requires { moment < 2 ^ 40 }
     ensures { OnOk result ((text : List ℕ)
-        × IsAccount rules.entry.config.now rows.now.rows moment bytes.now text
+        × IsAccount terms.entry.config.now rows.now.rows moment bytes.now text
         × (string_bytes out.new ≡ string_bytes out.old ++ text)) }
 {
-    match Message::read(rules.alloc, bytes) {
-        Ok(message) => put_message(out, rules, rows, &message, moment),
+    match Message::read(terms.alloc, bytes) {
+        Ok(message) => put_message(out, terms, rows, &message, moment),
         Err(ReadFault::Memory) => Err(AllocError),
-        Err(fault) => put_unreadable(rules.alloc, out, &fault),
+        Err(fault) => put_unreadable(terms.alloc, out, &fault),
     }
 }
 
 // Prints the lines about a message at a time.
 fn put_message(
     out: &mut String,
-    rules: Rules<'_>,
+    terms: Terms<'_>,
     rows: &Rows,
     message: &Message<'_>,
     moment: u64,
 ) -> Result<(), AllocError>
     requires { moment < 2 ^ 40 }
     ensures { OnOk result ((text : List ℕ)
-        × IsExplanation rules.entry.config.now rows.now.rows message.now moment text
+        × IsExplanation terms.entry.config.now rows.now.rows message.now moment text
         × (string_bytes out.new ≡ string_bytes out.old ++ text)) }
 {
-    let Rules { alloc, config, .. } = rules;
+    let Terms { alloc, config, .. } = terms;
     let explanation = explain(alloc, config, rows, message, moment)?;
     let scene = Scene {
         alloc,

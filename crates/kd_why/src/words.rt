@@ -5,7 +5,7 @@ ghost use Rattle.kd_why.specs.Words.{address_word, name_byte, name_text, truth_w
 
 use kd_names::message_type_name;
 use kd_options::MessageType;
-use kd_replay::{put_address, put_bytes};
+use kd_text::{put_address, put_bytes};
 use std::alloc::{AllocError, Global};
 
 // Prints an address, in host order, or a dash if there is none.

@@ -10,26 +10,22 @@ use std::io;
 use std::process::ExitCode;
 use version::version_line;
 
+// Carries out the arguments over this machine and its standard streams. A socket that was handed to
+// the process is used by `serve`.
 fn main(rt: HostRuntime) -> ExitCode {
-    let status = match begin(&rt) {
-        Ok((words, version)) => carry_out(&rt, version.as_str(), &words),
-        Err(fault) => refuse(&rt, fault),
+    let (words, version) = match begin(&rt) {
+        Ok(given) => given,
+        Err(fault) => return ExitCode::from(refuse(&rt, fault)),
     };
-    ExitCode::from(status)
-}
-
-// Carries out the arguments after the program's name over this machine and its standard streams, and
-// returns the exit status. A socket that was handed to the process is used by `serve`.
-fn carry_out(rt: &HostRuntime, version: &str, words: &[String]) -> u8 {
-    let handed = inherited_socket(rt);
+    let handed = inherited_socket(&rt);
     let stderr = rt.stderr();
-    let mut machine = Machine::of(rt, version, Unknown, handed);
+    let mut machine = Machine::of(&rt, version.as_str(), Unknown, handed);
     let mut ends = StandardEnds {
         input: Input::over(rt.reader()),
-        output: Output::over(io::writer(rt)),
+        output: Output::over(io::writer(&rt)),
         faults: Output::over(io::writer(&stderr)),
     };
-    run_on(&mut machine, words, &mut ends)
+    ExitCode::from(run_on(&mut machine, &words, &mut ends))
 }
 
 // Returns the arguments after the program's name, and the line that says its version.

@@ -1,5 +1,5 @@
 use kd_io::{Sending, Socket};
-use kd_replay::Link;
+use kd_loops::Link;
 use std::net::UdpSocket;
 use std::rt::Clock;
 use std::test::Fail;

@@ -1,4 +1,5 @@
-use kd_config::{Config, ConfigFault, Prefix, Range, TokenFile};
+use kd_config::{Prefix, Range};
+use kd_json::{ConfigFault, TokenFile, read_config};
 use kd_wire::Bytes;
 use std::alloc::{AllocError, Global};
 use std::test::Fail;
@@ -42,7 +43,7 @@ fn prefixes_and_pools_know_their_addresses(rt: HostRuntime) {
 fn fault_text(alloc: Global, files: &[TokenFile]) -> Result<String, AllocError> {
     let text =
         r#"{"Dhcp4":{"server-address":"192.0.2.1","client-classes":[{"name":"A","tokens":"t"}]}}"#;
-    match Config::read(alloc, text.as_bytes(), files) {
+    match read_config(alloc, text.as_bytes(), files) {
         Ok(_) => String::from_str(alloc, "none"),
         Err(fault) => format!(in alloc; "{fault}"),
     }

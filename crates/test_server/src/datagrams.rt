@@ -1,6 +1,6 @@
 use kd_event::Response;
 use kd_keeps::Keeps;
-use kd_replay::ServeFault;
+use kd_loops::ServeFault;
 use kd_server::Server;
 use std::alloc::{AllocError, Global};
 

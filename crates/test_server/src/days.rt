@@ -3,7 +3,7 @@ use crate::support::{PORTS, act_on, server_of};
 use kd_config::Config;
 use kd_event::{Mode, Reason, Response};
 use kd_keeps::{Cause, StoreFault};
-use kd_replay::ServeFault;
+use kd_loops::ServeFault;
 use kd_server::Server;
 use std::alloc::{AllocError, Global};
 use std::test::Fail;

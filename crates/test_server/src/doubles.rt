@@ -1,7 +1,7 @@
 // Ends of a replay: a source that returns a slice, and a sink that keeps what it receives.
 ghost use Rattle.std.specs.Prelude.{◌≡◌, ◌<◌, false};
 
-use kd_replay::{EndFailed, Sink, Source};
+use kd_loops::{EndFailed, Sink, Source};
 use std::alloc::Global;
 
 /// Returns at most `most` bytes a call; after them it ends, or fails.

@@ -1,6 +1,6 @@
 use crate::support::expect;
-use kd_config::TokenFile;
 use kd_io::{InputFault, MOST_BYTES, read_file, token_files};
+use kd_json::TokenFile;
 use std::alloc::Global;
 use std::os::unix::fs::symlink;
 use std::test::Fail;

@@ -10,7 +10,7 @@
 //!   `system-tests/host` tests the program over sockets and files.
 //!
 //! They are a separate crate because a crate is proved again together with its tests, and are
-//! separate from `test_texts` because the crates tested there are below the server's.
+//! separate from `test_messages` because the crates tested there are below the server's.
 #![tactic(auto)]
 
 #[cfg(test)]

@@ -1,7 +1,7 @@
 // The line of a handled event.
 
 use kd_event::{Handled, Reason, Response};
-use kd_replay::event_line;
+use kd_loops::event_line;
 use std::test::Fail;
 
 // A server takes no event of a moment that has so many digits.

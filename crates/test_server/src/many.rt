@@ -2,7 +2,7 @@ use crate::datagrams::{DISCOVER, OFFER, Reply, answer};
 use crate::files::put;
 use crate::leased::{address, lease};
 use crate::support::{PORTS, act_on, changed, expect, opened};
-use kd_config::Config;
+use kd_json::read_config;
 use kd_keeps::Keeps;
 use kd_server::Server;
 use std::alloc::Global;
@@ -50,7 +50,7 @@ fn server_over<S: Keeps + Drop>(alloc: Global, store: S) -> Result<Server<S>, Fa
     if store.failed() {
         return Err("the store has failed".into());
     }
-    match Config::read(alloc, CONFIG, &[]) {
+    match read_config(alloc, CONFIG, &[]) {
         Ok(config) => Ok(opened(alloc, config, store, PORTS)?),
         Err(fault) => Err(fault.into()),
     }

@@ -1,7 +1,7 @@
 // The record of received datagrams, in a file.
 use crate::files::remove;
 use kd_io::journal;
-use kd_replay::write_all;
+use kd_loops::write_all;
 use std::fs;
 use std::os::unix::fs::PermissionsExt;
 use std::test::Fail;

@@ -1,6 +1,6 @@
 use crate::doubles::{Giving, Keeping};
 use crate::support::{PORTS, Work, with_server};
-use kd_replay::{ReplayFault, replay_bytes};
+use kd_loops::{ReplayFault, replay_bytes};
 use kd_server::{Server, replay};
 use std::alloc::{AllocError, Global};
 use std::test::Fail;

@@ -1,7 +1,8 @@
 // Leases with many rows, with a configuration of many reservations.
 
 use crate::days::Fault;
-use kd_config::{Config, ConfigFault};
+use kd_config::Config;
+use kd_json::{ConfigFault, read_config};
 use kd_lease::Leases;
 use kd_rows::{Row, Rows, State};
 use kd_wire::Bytes;
@@ -61,7 +62,7 @@ pub(crate) type Scene = (u32, Layout, u32, Place);
 /// Returns the configuration of a scene.
 pub(crate) fn config_of(alloc: Global, scene: &Scene) -> Result<Config, Fault> {
     let text = text_of(alloc, scene)?;
-    Config::read(alloc, text.as_bytes(), &[]).map_err(cause_of)
+    read_config(alloc, text.as_bytes(), &[]).map_err(cause_of)
 }
 
 // Returns why a configuration is not read.

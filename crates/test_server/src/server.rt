@@ -1,7 +1,7 @@
 use crate::support::{PORTS, Work, datagram, look_at, server_of, with_server};
 use kd_config::Config;
 use kd_event::{Event, Handled, Reason, Response};
-use kd_replay::ServeFault;
+use kd_loops::ServeFault;
 use kd_server::Server;
 use kd_wire::Bytes;
 use std::alloc::{AllocError, Global};

@@ -3,10 +3,10 @@ ghost use Rattle.std.specs.Prelude.{◌≡◌, ◌<◌, ◌≤◌, IfOk, IfSome,
 
 use crate::doubles::Keeping;
 use crate::support::{PORTS, Work, datagram, with_server, with_server_of};
-use kd_config::Config;
 use kd_event::{Destination, Event};
 use kd_io::{Sending, Socket};
-use kd_replay::{
+use kd_json::read_config;
+use kd_loops::{
     EndFailed, Happening, Limits, Link, LoopFault, ServeFault, ServedBytes, serve_bytes,
 };
 use kd_server::{Server, serve};
@@ -196,7 +196,7 @@ impl Link for Wired {
 
     ghost has_failed = { λ link. link.failed };
 
-    #[tactic(auto, using(kd_replay::proofs::Coming::came_unknown))]
+    #[tactic(auto, using(kd_loops::proofs::Coming::came_unknown))]
     fn receive(&mut self, buf: &mut [u8]) -> Result<usize, EndFailed> {
         match self.next(buf) {
             Some(len) => Ok(len),
@@ -207,7 +207,7 @@ impl Link for Wired {
         }
     }
 
-    #[tactic(auto, using(kd_replay::proofs::Coming::came_unknown))]
+    #[tactic(auto, using(kd_loops::proofs::Coming::came_unknown))]
     fn receive_waiting(&mut self, buf: &mut [u8]) -> Option<usize> {
         self.next(buf)
     }
@@ -362,7 +362,7 @@ fn waited(
     clients: u8,
     calls: u64,
 ) -> Result<(Result<(), LoopFault>, usize), Fail> {
-    match Config::read(rt.alloc(), WIDE, &[]) {
+    match read_config(rt.alloc(), WIDE, &[]) {
         Ok(config) => with_server_of(rt.alloc(), config, PORTS, calls, Crowd { rt, clients }),
         Err(fault) => Err(fault.into()),
     }

@@ -3,7 +3,7 @@ ghost use Rattle.std.specs.Prelude.{◌≡◌, false, is_some};
 use kd_config::Config;
 use kd_event::Ports;
 use kd_keeps::Keeps;
-use kd_replay::ServeFault;
+use kd_loops::ServeFault;
 use kd_server::Server;
 use std::alloc::{AllocError, Global};
 use std::test::Fail;

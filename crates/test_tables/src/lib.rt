@@ -3,7 +3,7 @@
 //! (`Fused`), for tests of what is built on a store; and the bytes of an OFFER.
 //!
 //! They are a separate crate because a crate is proved again together with its tests, and are
-//! separate from `test_texts` because they need only the table's crates.
+//! separate from `test_messages` because they need only the table's crates.
 #![tactic(auto)]
 
 #[cfg(test)]

@@ -1,15 +1,12 @@
-ghost use Rattle.std.specs.Prelude.{◌≡◌, [], IfSome};
-ghost use Rattle.kd_config.specs.Configuration.{Configuration};
-ghost use Rattle.kd_config.specs.Configured.{IsConfigured};
+ghost use Rattle.std.specs.Prelude.{◌≡◌, IfSome};
 
 use kd_config::Config;
 use std::alloc::Global;
 
-/// Returns the address of the server that a configuration describes, if the text is one.
-pub fn server_in(alloc: Global, text: &[u8]) -> Option<u32>
-    ensures { IfSome result (λ address. (c : Configuration) × IsConfigured text.now [] c
-        × (address ≡ c.server)) }
+/// Returns the address of the server of the built-in configuration, 192.0.2.1.
+pub fn server_built_in(alloc: Global) -> Option<u32>
+    ensures { IfSome result (λ address. address ≡ 0xc0000201) }
 {
-    let config = Config::read(alloc, text, &[]).ok()?;
+    let config = Config::builtin(alloc).ok()?;
     Some(config.server())
 }

@@ -1,9 +1,9 @@
 ghost use Rattle.std.specs.Prelude.{◌≡◌, [], IfSome, List, Some, ℕ};
-ghost use Rattle.kd_config.specs.Configured.{IsConfigured};
+ghost use Rattle.kd_json.specs.Configured.{IsConfigured};
 
 use kd_config::Config;
 use kd_io::{config_of, read_source};
-use kd_replay::Source;
+use kd_loops::Source;
 use std::alloc::Global;
 
 /// Reads a configuration of at most 65,536 bytes.

@@ -6,6 +6,7 @@
 //! these crates quotes its function (`tools/uses` compares them).
 #![tactic(auto)]
 
+pub mod answers;
 pub mod check;
 pub mod classes;
 pub mod commands;
@@ -13,23 +14,22 @@ pub mod compile;
 pub mod config;
 pub mod database;
 pub mod event;
-pub mod events;
 pub mod expr;
-pub mod import;
 pub mod io;
+pub mod json;
 pub mod keeps;
 pub mod lease;
+pub mod log;
+pub mod loops;
 pub mod machine;
 pub mod names;
 pub mod options;
 pub mod pools;
-pub mod print;
 pub mod program;
-pub mod replay;
 pub mod rows;
 pub mod server;
 pub mod store;
+pub mod text;
 pub mod token;
 pub mod why;
 pub mod wire;
-pub mod words;

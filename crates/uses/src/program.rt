@@ -2,8 +2,8 @@ ghost use Rattle.std.specs.Prelude.{◌≡◌, false, map, string_bytes};
 ghost use Rattle.kd_program.specs.Running.{Carries};
 ghost use Rattle.kd_program.specs.Streams.{at_ends};
 
+use kd_loops::{Sink, Source};
 use kd_program::{Host, StandardEnds, run};
-use kd_replay::{Sink, Source};
 use std::alloc::Global;
 
 /// Carries out a command line over a host and three streams, and returns the exit status and the

@@ -1,6 +1,6 @@
 ghost use Rattle.std.specs.Prelude.{◌≡◌, IfSome, List, false, is_some};
 ghost use Rattle.kd_rows.specs.declared.row.Row.{Row};
-ghost use Rattle.kd_server.specs.Keeping.{StepsTo};
+ghost use Rattle.kd_server.specs.Server.{StepsTo};
 
 use kd_config::Config;
 use kd_keeps::Keeps;

@@ -2,9 +2,9 @@ ghost use Rattle.std.specs.Prelude.{IfOk};
 ghost use Rattle.kd_why.specs.Saying.{ExplainsEvent};
 
 use kd_config::Config;
-use kd_replay::ServeFault;
+use kd_loops::ServeFault;
 use kd_rows::Rows;
-use kd_server::{Ports, Rules};
+use kd_server::{Ports, Terms};
 use kd_why::why_text;
 use std::alloc::Global;
 
@@ -26,10 +26,10 @@ pub fn explanation(
         server: 67,
         client: 68,
     };
-    let rules = Rules {
+    let terms = Terms {
         alloc,
         ports,
         config,
     };
-    why_text(rules, rows, moment, datagram)
+    why_text(terms, rows, moment, datagram)
 }

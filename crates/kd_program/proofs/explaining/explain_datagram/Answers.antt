@@ -1,6 +1,6 @@
 use Rattle.std.proofs.Common.{ℕ, inr, refl, subst}
 use Rattle.kd_program.specs.Streams.{TellsWith, written_to}
-use Rattle.kd_print.specs.Status.{status_of}
+use Rattle.kd_answers.specs.Status.{status_of}
 use Rattle.kd_program.proofs.explaining.explain_datagram.Goals as goal
 
 pub returns-in-Err : goal.returns-in-Err

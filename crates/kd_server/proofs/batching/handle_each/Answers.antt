@@ -1,10 +1,10 @@
 use Rattle.std.proofs.Common.{◌+◌, ◌<◌, ◌∙◌, arith, length, refl, subst}
 use Rattle.std.proofs.lemmas.List.Elements.{All-push}
 use Rattle.kd_config.specs.Configuration.{Configuration}
-use Rattle.kd_replay.specs.Text.{IsSmall}
-use Rattle.kd_replay.proofs.Histories.{next_history, runs_fault}
+use Rattle.kd_loops.specs.Text.{IsSmall}
+use Rattle.kd_loops.proofs.Histories.{next_history, runs_fault}
 use Rattle.kd_server.specs.Batch.{LeavesOut}
-use Rattle.kd_server.specs.Keeping.{StepsTo}
+use Rattle.kd_server.specs.Server.{StepsTo}
 use Rattle.kd_server.proofs.Batches.{left_rows, moved_more, moved_still}
 use Rattle.kd_server.proofs.batching.handle_each.Goals as goal
 

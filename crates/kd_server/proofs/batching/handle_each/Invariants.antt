@@ -1,10 +1,10 @@
 use Rattle.std.proofs.Common.{◌≡◌, ◌≤◌, length, take, vec_len, vec_capacity}
 use Rattle.std.specs.List.{All}
-use Rattle.kd_replay.specs.History.{History}
-use Rattle.kd_replay.specs.Text.{IsSmall}
+use Rattle.kd_loops.specs.History.{History}
+use Rattle.kd_loops.specs.Text.{IsSmall}
 use Rattle.kd_rows.specs.Row.{IsInRange}
 use Rattle.kd_rows.specs.Table.{with_rows}
-use Rattle.kd_server.specs.Keeping.{StepsTo}
+use Rattle.kd_server.specs.Server.{StepsTo}
 use Rattle.kd_server.proofs.Batches.{Moved}
 use Rattle.kd_server.proofs.batching.handle_each.Given as goal
 

@@ -9,7 +9,7 @@ pub returns-in-Some-text : goal.returns-in-Some-text
 returns-in-Some-text g c = record {
   explained = λ input tells.
       let left = c.replay-done.ensures.replayed.leaves input [] tells (ap Some c.new-sink.ensures.bytes) in
-      explained (g.R.Source.has_failed c.replay-done.new.source ≡ true) (trying c.args.rules c.args.rows.now.rows) c.args.number input
+      explained (g.R.Source.has_failed c.replay-done.new.source ≡ true) (trying c.args.terms c.args.rows.now.rows) c.args.number input
       (record { trial = c.in_ok-over.field-0; left = c.in-Some.left; text = None }) c.replay-done.new.server c.in_ok-over.ensures (omega (arith, c.in-Some.ensures)) refl c.replay-done.result
       left.out c.in-Some-text.text.items left.replays (ap (λ (i : Inquiring). i.text) (sym c.inquiry.view_is) ∙ ap (option_map (λ t. t.items)) c.in-Some-text.is);
 }
@@ -19,7 +19,7 @@ returns g c = record {
   explained = λ input tells.
       let left = c.replay-done.ensures.replayed.leaves input [] tells (ap Some c.new-sink.ensures.bytes) in
       rw c.ending.ensures
-      (unexplained (g.R.Source.has_failed c.replay-done.new.source ≡ true) (trying c.args.rules c.args.rows.now.rows) c.args.number input
+      (unexplained (g.R.Source.has_failed c.replay-done.new.source ≡ true) (trying c.args.terms c.args.rows.now.rows) c.args.number input
       (record { trial = c.in_ok-over.field-0; left = c.in-Some.left; text = None }) c.replay-done.new.server c.in_ok-over.ensures (omega (arith, c.in-Some.ensures)) refl c.replay-done.result
       left.out left.replays (ap (λ (i : Inquiring). i.text) (sym c.inquiry.view_is) ∙ ap (option_map (λ t. t.items)) c.in-None.is));
 }

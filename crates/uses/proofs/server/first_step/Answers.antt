@@ -1,4 +1,4 @@
-use Rattle.kd_server.specs.Keeping.{Opens, Steps}
+use Rattle.kd_server.specs.Server.{Opens, Steps}
 use Rattle.uses.proofs.Results.{fact_of_some}
 use Rattle.uses.proofs.server.first_step.Goals as goal
 

@@ -1,9 +1,9 @@
 ghost use Rattle.std.specs.Prelude.{IfOk, string_bytes, true};
 ghost use Rattle.hex.specs.Hex.{decode_of};
-ghost use Rattle.kd_print.specs.Printed.{ShowsDecoded};
+ghost use Rattle.kd_answers.specs.Printed.{ShowsDecoded};
 
+use kd_answers::{Printed, answer};
 use kd_commands::Order;
-use kd_print::{Printed, answer};
 use std::alloc::{AllocError, Global};
 
 /// Returns what `kdhcp show --names` prints for a datagram in hexadecimal.

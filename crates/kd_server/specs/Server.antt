@@ -9,8 +9,8 @@ use Rattle.kd_event.specs.declared.ports.Ports.{Ports}
 use Rattle.kd_keeps.specs.declared.fault.StoreFault.{StoreFault}
 use Rattle.kd_keeps.specs.declared.keeps.Keeps.{Ghosts}
 use Rattle.kd_lease.specs.Change.{Changes}
-use Rattle.kd_replay.specs.declared.fault.ServeFault.{ServeFault}
-use Rattle.kd_replay.specs.declared.fault.ServeFault.TheVariants as faults
+use Rattle.kd_loops.specs.declared.fault.ServeFault.{ServeFault}
+use Rattle.kd_loops.specs.declared.fault.ServeFault.TheVariants as faults
 use Rattle.kd_rows.specs.Table.{latest_of}
 use Rattle.kd_rows.specs.declared.row.Row.{Row}
 use Rattle.kd_server.specs.Step.{IsStep}
@@ -18,14 +18,14 @@ use Rattle.kd_wire.specs.Header.{header_read}
 use Rattle.kd_wire.specs.declared.header.Header.{Header}
 
 -- what contracts see of a server: its ports, its configuration, its rows and its store
-pub record Keeping (S : Type 0) : Type 0 where
+pub record ServerState (S : Type 0) : Type 0 where
   pub ports : Ports
   pub config : Configuration
   pub rows : List Row
   pub store : S
 
 -- the time of the latest change of a server's rows
-abbrev pub latest_in : {S : Type 0} → Keeping S → ℕ
+abbrev pub latest_in : {S : Type 0} → ServerState S → ℕ
 latest_in server = latest_of server.rows
 
 -- one event of the history, from rows to rows
@@ -68,14 +68,14 @@ module _ {S : Type 0} (g : Ghosts S) where
     pub still : g.has_clean_disk new → StoreHolds old before → g.is_open new → g.stands new before
 
   -- a server has the same ports, configuration and rows
-  pub record IsSameBut (old new : Keeping S) : Type 0 where
+  pub record IsSameBut (old new : ServerState S) : Type 0 where
     pub ports : new.ports ≡ old.ports
     pub config : new.config ≡ old.config
     pub rows : new.rows ≡ old.rows
 
   -- a step of the server: the history's step, from rows to rows, and the store keeps the new rows
-  pub record Steps (old : Keeping S) (event : Event) (handled : Handled)
-      (new : Keeping S) : Type 0 where
+  pub record Steps (old : ServerState S) (event : Event) (handled : Handled)
+      (new : ServerState S) : Type 0 where
     pub worked : is_some (g.fault old.store) ≡ false
     pub ports : new.ports ≡ old.ports
     pub config : new.config ≡ old.config
@@ -84,8 +84,8 @@ module _ {S : Type 0} (g : Ghosts S) where
 
   -- the store has failed with this fault at the change of an event: there is no answer, and the
   -- server keeps the old rows
-  pub record IsStopped (fault : StoreFault) (old : Keeping S) (event : Event)
-      (new : Keeping S) : Type 0 where
+  pub record IsStopped (fault : StoreFault) (old : ServerState S) (event : Event)
+      (new : ServerState S) : Type 0 where
     pub worked : is_some (g.fault old.store) ≡ false
     pub same : IsSameBut old new
     pub handled : Handled
@@ -96,7 +96,7 @@ module _ {S : Type 0} (g : Ghosts S) where
   -- why an event is not handled, and what then holds: a time of 2^40 or more, a store that failed
   -- earlier, and out of memory (possible only once the header is read) change nothing; otherwise
   -- the store has failed at this event
-  abbrev pub Refuses : Keeping S → Event → ServeFault → Keeping S → Type 0
+  abbrev pub Refuses : ServerState S → Event → ServeFault → ServerState S → Type 0
   Refuses old event faults.MomentTooLarge new =
       (is_some (g.fault old.store) ≡ false) × (2 ^ 40 ≤ event.moment) × (new ≡ old)
   Refuses old event faults.Memory new =
@@ -108,7 +108,7 @@ module _ {S : Type 0} (g : Ghosts S) where
   -- a server that was opened over a store: its configuration obeys all limits, and if the store
   -- stood at a table, the server's rows are that table, and the store holds them
   pub record Opens (ports : Ports) (config : Configuration) (store : S)
-      (server : Keeping S) : Type 0 where
+      (server : ServerState S) : Type 0 where
     pub sound : IsSound config
     pub ports_are : server.ports ≡ ports
     pub config_is : server.config ≡ config

@@ -1,8 +1,8 @@
 ghost use Rattle.std.specs.Prelude.{[], IfSome};
-ghost use Rattle.kd_replay.specs.Lines.{lines_of};
-ghost use Rattle.kd_replay.specs.Replay.{Did};
+ghost use Rattle.kd_loops.specs.Lines.{lines_of};
+ghost use Rattle.kd_loops.specs.Replay.{Did};
 
-use kd_replay::{Serves, replay_bytes};
+use kd_loops::{Serves, replay_bytes};
 use std::alloc::Global;
 
 /// Replays the record of a day, and returns the lines of its whole history.

@@ -1,7 +1,7 @@
 ghost use Rattle.std.specs.Prelude.{◌≡◌, ◌<◌, ◌^◌, ◌∷◌, ◌++◌, ℕ, Some, decimal};
-ghost use Rattle.kd_replay.specs.Text.{address_text};
+ghost use Rattle.kd_text.specs.Text.{address_text};
 
-use kd_words::{address_of_word, cut, number_of_word};
+use kd_text::{address_of_word, cut, number_of_word};
 
 /// Reads back an address and a number that were printed with a space between them.
 pub fn address_and_number(text: &[u8]) -> Option<(u32, u64)>

@@ -1,9 +1,9 @@
 use Rattle.std.proofs.Common.{rules, ◌≡◌, ◌<◌, ◌^◌, ◌∷◌, ◌++◌, List, None, Some, decimal, refl, ℕ}
-use Rattle.kd_replay.specs.Text.{address_text}
-use Rattle.kd_words.proofs.Cuts.{cut_is}
-use Rattle.kd_words.proofs.Plain.{address_plain, space_is_none}
-use Rattle.kd_words.specs.Words.{IsCutOff}
-use Rattle.uses.proofs.words.address_and_number.Goals as goal
+use Rattle.kd_text.specs.Text.{address_text}
+use Rattle.kd_text.specs.Words.{IsCutOff}
+use Rattle.kd_text.proofs.Cuts.{cut_is}
+use Rattle.kd_text.proofs.Plain.{address_plain, space_is_none}
+use Rattle.uses.proofs.text.address_and_number.Goals as goal
 
 -- the two words of the text
 words_of : {text front back : List ℕ} (a n : ℕ) → IsCutOff 32 text front back → a < 2 ^ 32 → text ≡ address_text a ++ 32 ∷ decimal n
