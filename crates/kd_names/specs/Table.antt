@@ -1,8 +1,8 @@
 -- The options with names: those of RFC 2132 and some of later standards, named as in Kea's standard
 -- option definitions, each with its code and the type of its value.
-use Rattle.std.specs.Prelude.{ℕ, ◌==◌, List, [], ◌∷◌, ◌++◌, Option, codes, find, option_map}
+use Rattle.std.specs.Prelude.{ℕ, ◌==◌, List, [], ◌∷◌, ◌++◌, Option, bytes_eq, codes, find, option_map}
 use Rattle.kd_names.specs.declared.kind.Kind.{Kind}
-use Rattle.kd_names.specs.declared.kind.Kind.TheVariants.{Address, Addresses, Pairs, Flag, Byte, Short, Long, Signed, Shorts, Codes, MessageType, Text, Bytes}
+use Rattle.kd_names.specs.declared.kind.Kind.TheVariants.{Address, Addresses, Pairs, Flag, Byte, Short, Long, Signed, Shorts, Codes, MessageType, Text, Name, Names, Routes, Bytes}
 
 -- an option's code, its name and the type of its value
 abbrev pub Definition : Type 0
@@ -106,17 +106,68 @@ extensions =
     ∷ (66, codes "tftp-server-name", Text)
     ∷ (67, codes "boot-file-name", Text) ∷ []
 
--- options of later standards: RFC 4702, RFC 3046, RFC 3397 and RFC 3442
+-- options of later standards with codes from 62 to 97 (RFC 2241, 2242, 2610, 3004, 3046, 3118,
+-- 4280, 4388, 4578 and 4702)
 abbrev pub later_options : List Definition
 later_options =
-    (81, codes "fqdn", Bytes)
+    (62, codes "nwip-domain-name", Text)
+    ∷ (63, codes "nwip-suboptions", Bytes)
+    ∷ (77, codes "user-class", Bytes)
+    ∷ (78, codes "slp-directory-agent", Bytes)
+    ∷ (79, codes "slp-service-scope", Bytes)
+    ∷ (81, codes "fqdn", Bytes)
     ∷ (82, codes "dhcp-agent-options", Bytes)
-    ∷ (119, codes "domain-search", Bytes)
-    ∷ (121, codes "classless-static-route", Bytes) ∷ []
+    ∷ (85, codes "nds-servers", Addresses)
+    ∷ (86, codes "nds-tree-name", Text)
+    ∷ (87, codes "nds-context", Text)
+    ∷ (88, codes "bcms-controller-names", Names)
+    ∷ (89, codes "bcms-controller-address", Addresses)
+    ∷ (90, codes "authenticate", Bytes)
+    ∷ (91, codes "client-last-transaction-time", Long)
+    ∷ (92, codes "associated-ip", Addresses)
+    ∷ (93, codes "client-system", Shorts)
+    ∷ (94, codes "client-ndi", Bytes)
+    ∷ (97, codes "uuid-guid", Bytes) ∷ []
+
+-- those with codes from 98 to 125 (RFC 2485, 2563, 2937, 3011, 3397, 3442, 3679, 3925, 4776, 4833,
+-- 8910 and 8925)
+abbrev pub more_options : List Definition
+more_options =
+    (98, codes "uap-servers", Text)
+    ∷ (99, codes "geoconf-civic", Bytes)
+    ∷ (100, codes "pcode", Text)
+    ∷ (101, codes "tcode", Text)
+    ∷ (108, codes "v6-only-preferred", Long)
+    ∷ (112, codes "netinfo-server-address", Addresses)
+    ∷ (113, codes "netinfo-server-tag", Text)
+    ∷ (114, codes "v4-captive-portal", Text)
+    ∷ (116, codes "auto-config", Byte)
+    ∷ (117, codes "name-service-search", Shorts)
+    ∷ (118, codes "subnet-selection", Address)
+    ∷ (119, codes "domain-search", Names)
+    ∷ (121, codes "classless-static-route", Routes)
+    ∷ (124, codes "vivco-suboptions", Bytes)
+    ∷ (125, codes "vivso-suboptions", Bytes) ∷ []
+
+-- those with codes from 136 on (RFC 5192, 5223, 5417, 5969, 5986, 6011, 6731, 7618, 8572 and 9463)
+abbrev pub high_options : List Definition
+high_options =
+    (136, codes "pana-agent", Addresses)
+    ∷ (137, codes "v4-lost", Name)
+    ∷ (138, codes "capwap-ac-v4", Addresses)
+    ∷ (141, codes "sip-ua-cs-domains", Names)
+    ∷ (143, codes "v4-sztp-redirect", Bytes)
+    ∷ (146, codes "rdnss-selection", Bytes)
+    ∷ (159, codes "v4-portparams", Bytes)
+    ∷ (162, codes "v4-dnr", Bytes)
+    ∷ (212, codes "option-6rd", Bytes)
+    ∷ (213, codes "v4-access-domain", Name) ∷ []
 
 -- all of them
 abbrev pub definitions : List Definition
-definitions = vendor_extensions ++ ip_parameters ++ link_parameters ++ services ++ more_services ++ extensions ++ later_options
+definitions =
+    vendor_extensions ++ ip_parameters ++ link_parameters ++ services ++ more_services ++ extensions
+    ++ later_options ++ more_options ++ high_options
 
 -- the name and the type that a list has for a code
 abbrev pub definition_in : List Definition → ℕ → Option (List ℕ × Kind)
@@ -125,3 +176,15 @@ definition_in list code = option_map (λ d. (d.1, d.2)) (find (λ d. d.0 == code
 -- the name of an option and the type of its value, if it has a name
 abbrev pub definition_of : ℕ → Option (List ℕ × Kind)
 definition_of = definition_in definitions
+
+-- the type of the value of an option, if the option has a name
+abbrev pub kind_by_code : ℕ → Option Kind
+kind_by_code code = option_map (λ d. d.1) (definition_of code)
+
+-- the code and the type that a list has for a name
+abbrev pub option_among : List Definition → List ℕ → Option (ℕ × Kind)
+option_among list name = option_map (λ d. (d.0, d.2)) (find (λ d. bytes_eq d.1 name) list)
+
+-- the code of the option that has this name, and the type of its value
+abbrev pub option_by_name : List ℕ → Option (ℕ × Kind)
+option_by_name = option_among definitions

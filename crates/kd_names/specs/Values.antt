@@ -1,12 +1,13 @@
 -- The values of options as text, by their types (RFC 2132), and the line of an option that has a
 -- name.
 use Rattle.std.specs.Prelude.{ℕ, ◌+◌, ◌-◌, ◌*◌, ◌^◌, ◌%◌, ◌==◌, ◌&&◌, Bool, false, if◌then◌else◌, nat_le, nat_lt}
-use Rattle.std.specs.Prelude.{List, [], ◌∷◌, ◌++◌, Option, Some, None, codes, decimal, length}
+use Rattle.std.specs.Prelude.{List, [], ◌∷◌, ◌++◌, Option, Some, None, codes, count_by, decimal, drop, length, take}
 use Rattle.std.specs.List.{flat_map}
 use Rattle.hex.specs.Hex.{encode_lower}
+use Rattle.kd_names.specs.Pieces.{are_names, are_routes, bytes_of_bits, is_end, labels_of, routes_of}
 use Rattle.kd_names.specs.Table.{definition_of}
 use Rattle.kd_names.specs.declared.kind.Kind.{Kind}
-use Rattle.kd_names.specs.declared.kind.Kind.TheVariants.{Address, Addresses, Pairs, Flag, Byte, Short, Long, Signed, Shorts, Codes, MessageType, Text, Bytes}
+use Rattle.kd_names.specs.declared.kind.Kind.TheVariants.{Address, Addresses, Pairs, Flag, Byte, Short, Long, Signed, Shorts, Codes, MessageType, Text, Name, Names, Routes, Bytes}
 
 -- ---- the form of a value
 
@@ -33,6 +34,9 @@ fits_kind Shorts value = is_grouped 2 value
 fits_kind Codes value = nat_lt 0 (length value)
 fits_kind MessageType value = is_byte_within 1 8 value
 fits_kind Text value = nat_lt 0 (length value)
+fits_kind Name value = are_names value && count_by (λ b. b == 0) value == 1
+fits_kind Names value = are_names value
+fits_kind Routes value = are_routes value
 fits_kind Bytes value = nat_lt 0 (length value)
 
 -- ---- addresses and numbers
@@ -121,6 +125,40 @@ sign_text b =
 unfoldable pub quoted_text : List ℕ → List ℕ
 quoted_text value = codes "\"" ++ flat_map sign_text value ++ codes "\""
 
+-- ---- domain names and routes
+
+-- what stands behind a piece: nothing if it is the last
+abbrev pub comma_before : List (List ℕ) → List ℕ
+comma_before [] = []
+comma_before (piece ∷ pieces) = comma
+
+-- labels as text: a dot behind each, and a comma between names
+abbrev pub names_text : List (List ℕ) → List ℕ
+names_text [] = []
+names_text (label ∷ labels) =
+    (if is_end label then comma_before labels else flat_map sign_text (drop 1 label) ++ codes ".")
+    ++ names_text labels
+
+-- the address of a prefix, of whose bytes at most four are given
+abbrev pub prefix_address : List ℕ → List ℕ
+prefix_address [] = dotted_text 0 0 0 0
+prefix_address (a ∷ []) = dotted_text a 0 0 0
+prefix_address (a ∷ b ∷ []) = dotted_text a b 0 0
+prefix_address (a ∷ b ∷ c ∷ []) = dotted_text a b c 0
+prefix_address (a ∷ b ∷ c ∷ d ∷ more) = dotted_text a b c d
+
+-- a route as text: the prefix, a dash, the router
+abbrev pub route_text : List ℕ → List ℕ
+route_text [] = []
+route_text (bits ∷ bytes) =
+    prefix_address (take (bytes_of_bits bits) bytes) ++ codes "/" ++ decimal bits ++ codes " - "
+    ++ addresses_text (drop (bytes_of_bits bits) bytes)
+
+-- routes as text, with commas between them
+abbrev pub routes_text : List (List ℕ) → List ℕ
+routes_text [] = []
+routes_text (route ∷ routes) = route_text route ++ comma_before routes ++ routes_text routes
+
 -- ---- the line
 
 -- a value as its type is written
@@ -137,6 +175,9 @@ text_by_kind Shorts value = shorts_text value
 text_by_kind Codes value = codes_text value
 text_by_kind MessageType value = message_type_text (number_of_bytes value)
 text_by_kind Text value = quoted_text value
+text_by_kind Name value = names_text (labels_of value)
+text_by_kind Names value = names_text (labels_of value)
+text_by_kind Routes value = routes_text (routes_of value)
 text_by_kind Bytes value = encode_lower value
 
 -- a name and a value of its type

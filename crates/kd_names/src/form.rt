@@ -1,7 +1,8 @@
-ghost use Rattle.std.specs.Prelude.{◌≡◌, ◌<◌};
+ghost use Rattle.std.specs.Prelude.{◌≡◌, ◌<◌, ◌==◌, count_by};
 ghost use Rattle.kd_names.specs.Values.{fits_kind, is_byte_within, is_grouped};
 
 use crate::kind::Kind;
+use crate::pieces::{has_names, has_routes};
 
 // Whether a value has the form of its type.
 pub(crate) fn is_well_formed(kind: Kind, value: &[u8]) -> bool
@@ -20,6 +21,9 @@ pub(crate) fn is_well_formed(kind: Kind, value: &[u8]) -> bool
         Kind::Codes => !value.is_empty(),
         Kind::MessageType => is_byte(value, 1, 8),
         Kind::Text => !value.is_empty(),
+        Kind::Name => has_names(value) && count_zeros(value) == 1,
+        Kind::Names => has_names(value),
+        Kind::Routes => has_routes(value),
         Kind::Bytes => !value.is_empty(),
     }
 }
@@ -40,4 +44,11 @@ fn is_byte(value: &[u8], least: u8, most: u8) -> bool
         [byte] => least <= *byte && *byte <= most,
         _ => false,
     }
+}
+
+// Returns how many bytes are zeros.
+fn count_zeros(value: &[u8]) -> usize
+    ensures { result ≡ count_by (λ b. b == 0) value.now }
+{
+    value.iter().filter(|b| **b == 0).count()
 }

@@ -25,6 +25,12 @@ pub enum Kind {
     MessageType,
     /// Text.
     Text,
+    /// One domain name (RFC 1035 section 3.1, without compression).
+    Name,
+    /// One or more domain names.
+    Names,
+    /// One or more classless routes (RFC 3442).
+    Routes,
     /// Bytes that have no simpler form.
     Bytes,
 }

@@ -4,6 +4,7 @@ ghost use Rattle.kd_names.specs.Values.{named_text, named_value, text_by_kind};
 use crate::form::is_well_formed;
 use crate::kind::Kind;
 use crate::number::{number, put_addresses, put_codes, put_number, put_shorts, put_signed};
+use crate::pieces::{put_names, put_routes};
 use crate::table::definition;
 use crate::text::{put_bytes, put_flag, put_message_type, put_quoted};
 use std::alloc::{AllocError, Global};
@@ -67,6 +68,9 @@ fn put_value(alloc: Global, out: &mut String, kind: Kind, value: &[u8]) -> Resul
         Kind::Codes => put_codes(out, value),
         Kind::MessageType => put_message_type(out, number(value)),
         Kind::Text => put_quoted(alloc, out, value),
+        Kind::Name => put_names(alloc, out, value),
+        Kind::Names => put_names(alloc, out, value),
+        Kind::Routes => put_routes(out, value),
         Kind::Bytes => put_bytes(alloc, out, value),
     }
 }

@@ -1,6 +1,7 @@
 ghost use Rattle.std.specs.Prelude.{◌≡◌, option_map};
 ghost use Rattle.kd_names.specs.Table.{definition_in, definition_of};
-ghost use Rattle.kd_names.specs.Table.{extensions, ip_parameters, later_options, link_parameters, more_services, services, vendor_extensions};
+ghost use Rattle.kd_names.specs.Table.{extensions, high_options, ip_parameters, later_options, link_parameters};
+ghost use Rattle.kd_names.specs.Table.{more_options, more_services, services, vendor_extensions};
 
 use crate::kind::Kind;
 
@@ -10,8 +11,9 @@ pub(crate) fn definition(code: u8) -> Option<(&'static str, Kind)>
 {
     let first = vendor_extension(code).or(ip_parameter(code));
     let settings = first.or(link_parameter(code)).or(service(code));
-    let rest = settings.or(more_service(code)).or(extension(code));
-    rest.or(later_option(code))
+    let basic = settings.or(more_service(code)).or(extension(code));
+    let later = basic.or(later_option(code)).or(more_option(code));
+    later.or(high_option(code))
 }
 
 // Looks among the vendor extensions of RFC 1497 (RFC 2132 section 3).
@@ -143,15 +145,75 @@ fn extension(code: u8) -> Option<(&'static str, Kind)>
     }
 }
 
-// Looks among the options of later standards: RFC 4702, RFC 3046, RFC 3397 and RFC 3442.
+// Looks among the options of later standards with codes from 62 to 97 (RFC 2241, 2242, 2610, 3004,
+// 3046, 3118, 4280, 4388, 4578 and 4702).
 fn later_option(code: u8) -> Option<(&'static str, Kind)>
     ensures { option_map (λ d. (d.0.now, d.1)) result ≡ definition_in later_options code }
 {
     match code {
+        62 => Some(("nwip-domain-name", Kind::Text)),
+        63 => Some(("nwip-suboptions", Kind::Bytes)),
+        77 => Some(("user-class", Kind::Bytes)),
+        78 => Some(("slp-directory-agent", Kind::Bytes)),
+        79 => Some(("slp-service-scope", Kind::Bytes)),
         81 => Some(("fqdn", Kind::Bytes)),
         82 => Some(("dhcp-agent-options", Kind::Bytes)),
-        119 => Some(("domain-search", Kind::Bytes)),
-        121 => Some(("classless-static-route", Kind::Bytes)),
+        85 => Some(("nds-servers", Kind::Addresses)),
+        86 => Some(("nds-tree-name", Kind::Text)),
+        87 => Some(("nds-context", Kind::Text)),
+        88 => Some(("bcms-controller-names", Kind::Names)),
+        89 => Some(("bcms-controller-address", Kind::Addresses)),
+        90 => Some(("authenticate", Kind::Bytes)),
+        91 => Some(("client-last-transaction-time", Kind::Long)),
+        92 => Some(("associated-ip", Kind::Addresses)),
+        93 => Some(("client-system", Kind::Shorts)),
+        94 => Some(("client-ndi", Kind::Bytes)),
+        97 => Some(("uuid-guid", Kind::Bytes)),
+        _ => None,
+    }
+}
+
+// Looks among those with codes from 98 to 125 (RFC 2485, 2563, 2937, 3011, 3397, 3442, 3679, 3925,
+// 4776, 4833, 8910 and 8925).
+fn more_option(code: u8) -> Option<(&'static str, Kind)>
+    ensures { option_map (λ d. (d.0.now, d.1)) result ≡ definition_in more_options code }
+{
+    match code {
+        98 => Some(("uap-servers", Kind::Text)),
+        99 => Some(("geoconf-civic", Kind::Bytes)),
+        100 => Some(("pcode", Kind::Text)),
+        101 => Some(("tcode", Kind::Text)),
+        108 => Some(("v6-only-preferred", Kind::Long)),
+        112 => Some(("netinfo-server-address", Kind::Addresses)),
+        113 => Some(("netinfo-server-tag", Kind::Text)),
+        114 => Some(("v4-captive-portal", Kind::Text)),
+        116 => Some(("auto-config", Kind::Byte)),
+        117 => Some(("name-service-search", Kind::Shorts)),
+        118 => Some(("subnet-selection", Kind::Address)),
+        119 => Some(("domain-search", Kind::Names)),
+        121 => Some(("classless-static-route", Kind::Routes)),
+        124 => Some(("vivco-suboptions", Kind::Bytes)),
+        125 => Some(("vivso-suboptions", Kind::Bytes)),
+        _ => None,
+    }
+}
+
+// Looks among those with codes from 136 on (RFC 5192, 5223, 5417, 5969, 5986, 6011, 6731, 7618,
+// 8572 and 9463).
+fn high_option(code: u8) -> Option<(&'static str, Kind)>
+    ensures { option_map (λ d. (d.0.now, d.1)) result ≡ definition_in high_options code }
+{
+    match code {
+        136 => Some(("pana-agent", Kind::Addresses)),
+        137 => Some(("v4-lost", Kind::Name)),
+        138 => Some(("capwap-ac-v4", Kind::Addresses)),
+        141 => Some(("sip-ua-cs-domains", Kind::Names)),
+        143 => Some(("v4-sztp-redirect", Kind::Bytes)),
+        146 => Some(("rdnss-selection", Kind::Bytes)),
+        159 => Some(("v4-portparams", Kind::Bytes)),
+        162 => Some(("v4-dnr", Kind::Bytes)),
+        212 => Some(("option-6rd", Kind::Bytes)),
+        213 => Some(("v4-access-domain", Kind::Name)),
         _ => None,
     }
 }

@@ -31,5 +31,6 @@ pub mod server;
 pub mod store;
 pub mod text;
 pub mod token;
+pub mod values;
 pub mod why;
 pub mod wire;

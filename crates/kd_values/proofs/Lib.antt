@@ -1,0 +1,15 @@
+pub mod Cuts
+pub mod Figures
+pub mod Joined
+pub mod Letters
+pub mod Dots
+pub mod Trims
+pub mod Decimals
+pub mod Dotted
+pub mod Lists
+pub mod Printed
+pub mod Readings
+pub mod Labels
+pub mod Domains
+pub mod Routes
+pub mod Worked

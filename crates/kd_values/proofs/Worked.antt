@@ -1,0 +1,206 @@
+-- Worked examples: texts and their values, as `migrate/kea/options.py` has them (routes and what
+-- it does not read by hand, from RFC 3442).
+use Rattle.std.proofs.Common.{◌≡◌, [], ◌∷◌, Some, None, refl}
+use Rattle.std.specs.Prelude.{codes}
+use Rattle.std.specs.Fmt.{digits}
+use Rattle.hex.specs.Hex.{decode_pairs}
+use Rattle.kd_expr.specs.Lexing.{address_read, part_at_front, part_after_dot}
+use Rattle.kd_names.specs.declared.kind.Kind.TheVariants.{Address, Addresses, Pairs, Flag, Byte, Short, Long, Signed, Shorts, Codes, MessageType, Text, Name, Names, Routes, Bytes}
+use Rattle.kd_names.specs.Values.{message_type_word}
+use Rattle.kd_values.specs.Numbers.{based_number}
+use Rattle.kd_values.specs.Signs.{flag_spelled, message_type_spelled}
+use Rattle.kd_values.specs.Digits.{hexadecimal_spelled}
+use Rattle.kd_values.specs.Names.{route_spelled}
+use Rattle.kd_values.specs.Spelled.{data_spelled}
+
+example_1 : data_spelled Addresses (codes "192.0.2.1, 192.0.2.2") ≡ (Some (192 ∷ 0 ∷ 2 ∷ 1 ∷ 192 ∷ 0 ∷ 2 ∷ 2 ∷ []))
+unfolding address_read part_at_front part_after_dot digits decode_pairs based_number flag_spelled message_type_spelled message_type_word hexadecimal_spelled route_spelled
+example_1 = refl
+
+example_2 : data_spelled Addresses (codes " 192.0.2.1 ") ≡ (Some (192 ∷ 0 ∷ 2 ∷ 1 ∷ []))
+unfolding address_read part_at_front part_after_dot digits decode_pairs based_number flag_spelled message_type_spelled message_type_word hexadecimal_spelled route_spelled
+example_2 = refl
+
+example_3 : data_spelled Addresses (codes "192.0.2.1,,192.0.2.2") ≡ None
+unfolding address_read part_at_front part_after_dot digits decode_pairs based_number flag_spelled message_type_spelled message_type_word hexadecimal_spelled route_spelled
+example_3 = refl
+
+example_4 : data_spelled Addresses ([]) ≡ None
+unfolding address_read part_at_front part_after_dot digits decode_pairs based_number flag_spelled message_type_spelled message_type_word hexadecimal_spelled route_spelled
+example_4 = refl
+
+example_5 : data_spelled Address (codes "255.255.255.0") ≡ (Some (255 ∷ 255 ∷ 255 ∷ 0 ∷ []))
+unfolding address_read part_at_front part_after_dot digits decode_pairs based_number flag_spelled message_type_spelled message_type_word hexadecimal_spelled route_spelled
+example_5 = refl
+
+example_6 : data_spelled Address (codes "255.255.255.0, 1.2.3.4") ≡ None
+unfolding address_read part_at_front part_after_dot digits decode_pairs based_number flag_spelled message_type_spelled message_type_word hexadecimal_spelled route_spelled
+example_6 = refl
+
+example_7 : data_spelled Pairs (codes "192.0.2.0, 255.255.255.0") ≡ (Some (192 ∷ 0 ∷ 2 ∷ 0 ∷ 255 ∷ 255 ∷ 255 ∷ 0 ∷ []))
+unfolding address_read part_at_front part_after_dot digits decode_pairs based_number flag_spelled message_type_spelled message_type_word hexadecimal_spelled route_spelled
+example_7 = refl
+
+example_8 : data_spelled Flag (codes "TRUE") ≡ (Some (1 ∷ []))
+unfolding address_read part_at_front part_after_dot digits decode_pairs based_number flag_spelled message_type_spelled message_type_word hexadecimal_spelled route_spelled
+example_8 = refl
+
+example_9 : data_spelled Flag (codes "0") ≡ (Some (0 ∷ []))
+unfolding address_read part_at_front part_after_dot digits decode_pairs based_number flag_spelled message_type_spelled message_type_word hexadecimal_spelled route_spelled
+example_9 = refl
+
+example_10 : data_spelled Flag (codes "yes") ≡ None
+unfolding address_read part_at_front part_after_dot digits decode_pairs based_number flag_spelled message_type_spelled message_type_word hexadecimal_spelled route_spelled
+example_10 = refl
+
+example_11 : data_spelled Byte (codes "64") ≡ (Some (64 ∷ []))
+unfolding address_read part_at_front part_after_dot digits decode_pairs based_number flag_spelled message_type_spelled message_type_word hexadecimal_spelled route_spelled
+example_11 = refl
+
+example_12 : data_spelled Byte (codes "0x40") ≡ (Some (64 ∷ []))
+unfolding address_read part_at_front part_after_dot digits decode_pairs based_number flag_spelled message_type_spelled message_type_word hexadecimal_spelled route_spelled
+example_12 = refl
+
+example_13 : data_spelled Byte (codes "256") ≡ None
+unfolding address_read part_at_front part_after_dot digits decode_pairs based_number flag_spelled message_type_spelled message_type_word hexadecimal_spelled route_spelled
+example_13 = refl
+
+example_14 : data_spelled Byte ([]) ≡ None
+unfolding address_read part_at_front part_after_dot digits decode_pairs based_number flag_spelled message_type_spelled message_type_word hexadecimal_spelled route_spelled
+example_14 = refl
+
+example_15 : data_spelled Short (codes "1500") ≡ (Some (5 ∷ 220 ∷ []))
+unfolding address_read part_at_front part_after_dot digits decode_pairs based_number flag_spelled message_type_spelled message_type_word hexadecimal_spelled route_spelled
+example_15 = refl
+
+example_16 : data_spelled Short (codes "65536") ≡ None
+unfolding address_read part_at_front part_after_dot digits decode_pairs based_number flag_spelled message_type_spelled message_type_word hexadecimal_spelled route_spelled
+example_16 = refl
+
+example_17 : data_spelled Long (codes "4294967295") ≡ (Some (255 ∷ 255 ∷ 255 ∷ 255 ∷ []))
+unfolding address_read part_at_front part_after_dot digits decode_pairs based_number flag_spelled message_type_spelled message_type_word hexadecimal_spelled route_spelled
+example_17 = refl
+
+example_18 : data_spelled Long (codes "4294967296") ≡ None
+unfolding address_read part_at_front part_after_dot digits decode_pairs based_number flag_spelled message_type_spelled message_type_word hexadecimal_spelled route_spelled
+example_18 = refl
+
+example_19 : data_spelled Signed (codes "-3600") ≡ (Some (255 ∷ 255 ∷ 241 ∷ 240 ∷ []))
+unfolding address_read part_at_front part_after_dot digits decode_pairs based_number flag_spelled message_type_spelled message_type_word hexadecimal_spelled route_spelled
+example_19 = refl
+
+example_20 : data_spelled Signed (codes "2147483647") ≡ (Some (127 ∷ 255 ∷ 255 ∷ 255 ∷ []))
+unfolding address_read part_at_front part_after_dot digits decode_pairs based_number flag_spelled message_type_spelled message_type_word hexadecimal_spelled route_spelled
+example_20 = refl
+
+example_21 : data_spelled Signed (codes "2147483648") ≡ None
+unfolding address_read part_at_front part_after_dot digits decode_pairs based_number flag_spelled message_type_spelled message_type_word hexadecimal_spelled route_spelled
+example_21 = refl
+
+example_22 : data_spelled Signed (codes "-2147483648") ≡ (Some (128 ∷ 0 ∷ 0 ∷ 0 ∷ []))
+unfolding address_read part_at_front part_after_dot digits decode_pairs based_number flag_spelled message_type_spelled message_type_word hexadecimal_spelled route_spelled
+example_22 = refl
+
+example_23 : data_spelled Signed (codes "-2147483649") ≡ None
+unfolding address_read part_at_front part_after_dot digits decode_pairs based_number flag_spelled message_type_spelled message_type_word hexadecimal_spelled route_spelled
+example_23 = refl
+
+example_24 : data_spelled Shorts (codes "68, 296,0x1fc") ≡ (Some (0 ∷ 68 ∷ 1 ∷ 40 ∷ 1 ∷ 252 ∷ []))
+unfolding address_read part_at_front part_after_dot digits decode_pairs based_number flag_spelled message_type_spelled message_type_word hexadecimal_spelled route_spelled
+example_24 = refl
+
+example_25 : data_spelled Codes (codes "1,3, 255") ≡ (Some (1 ∷ 3 ∷ 255 ∷ []))
+unfolding address_read part_at_front part_after_dot digits decode_pairs based_number flag_spelled message_type_spelled message_type_word hexadecimal_spelled route_spelled
+example_25 = refl
+
+example_26 : data_spelled Text (codes " a\\, b ") ≡ (Some (97 ∷ 44 ∷ 32 ∷ 98 ∷ []))
+unfolding address_read part_at_front part_after_dot digits decode_pairs based_number flag_spelled message_type_spelled message_type_word hexadecimal_spelled route_spelled
+example_26 = refl
+
+example_27 : data_spelled Text (codes "a\\\\,b") ≡ (Some (97 ∷ 92 ∷ 44 ∷ 98 ∷ []))
+unfolding address_read part_at_front part_after_dot digits decode_pairs based_number flag_spelled message_type_spelled message_type_word hexadecimal_spelled route_spelled
+example_27 = refl
+
+example_28 : data_spelled Text (codes "a,b") ≡ None
+unfolding address_read part_at_front part_after_dot digits decode_pairs based_number flag_spelled message_type_spelled message_type_word hexadecimal_spelled route_spelled
+example_28 = refl
+
+example_29 : data_spelled Text (codes "x") ≡ (Some (120 ∷ []))
+unfolding address_read part_at_front part_after_dot digits decode_pairs based_number flag_spelled message_type_spelled message_type_word hexadecimal_spelled route_spelled
+example_29 = refl
+
+example_30 : data_spelled Name (codes "example.org") ≡ (Some (7 ∷ 101 ∷ 120 ∷ 97 ∷ 109 ∷ 112 ∷ 108 ∷ 101 ∷ 3 ∷ 111 ∷ 114 ∷ 103 ∷ 0 ∷ []))
+unfolding address_read part_at_front part_after_dot digits decode_pairs based_number flag_spelled message_type_spelled message_type_word hexadecimal_spelled route_spelled
+example_30 = refl
+
+example_31 : data_spelled Name (codes "example.org.") ≡ (Some (7 ∷ 101 ∷ 120 ∷ 97 ∷ 109 ∷ 112 ∷ 108 ∷ 101 ∷ 3 ∷ 111 ∷ 114 ∷ 103 ∷ 0 ∷ []))
+unfolding address_read part_at_front part_after_dot digits decode_pairs based_number flag_spelled message_type_spelled message_type_word hexadecimal_spelled route_spelled
+example_31 = refl
+
+example_32 : data_spelled Name (codes "a..b") ≡ None
+unfolding address_read part_at_front part_after_dot digits decode_pairs based_number flag_spelled message_type_spelled message_type_word hexadecimal_spelled route_spelled
+example_32 = refl
+
+example_33 : data_spelled Name (codes ".") ≡ None
+unfolding address_read part_at_front part_after_dot digits decode_pairs based_number flag_spelled message_type_spelled message_type_word hexadecimal_spelled route_spelled
+example_33 = refl
+
+example_34 : data_spelled Names (codes "eng.example.org, example.org.") ≡ (Some (3 ∷ 101 ∷ 110 ∷ 103 ∷ 7 ∷ 101 ∷ 120 ∷ 97 ∷ 109 ∷ 112 ∷ 108 ∷ 101 ∷ 3 ∷ 111 ∷ 114 ∷ 103 ∷ 0 ∷ 7 ∷ 101 ∷ 120 ∷ 97 ∷ 109 ∷ 112 ∷ 108 ∷ 101 ∷ 3 ∷ 111 ∷ 114 ∷ 103 ∷ 0 ∷ []))
+unfolding address_read part_at_front part_after_dot digits decode_pairs based_number flag_spelled message_type_spelled message_type_word hexadecimal_spelled route_spelled
+example_34 = refl
+
+example_35 : data_spelled Names (codes "xxxxxxxxxxxxxxxxxxxxxxxxxxxxxxxxxxxxxxxxxxxxxxxxxxxxxxxxxxxxxxx.y") ≡ (Some (63 ∷ 120 ∷ 120 ∷ 120 ∷ 120 ∷ 120 ∷ 120 ∷ 120 ∷ 120 ∷ 120 ∷ 120 ∷ 120 ∷ 120 ∷ 120 ∷ 120 ∷ 120 ∷ 120 ∷ 120 ∷ 120 ∷ 120 ∷ 120 ∷ 120 ∷ 120 ∷ 120 ∷ 120 ∷ 120 ∷ 120 ∷ 120 ∷ 120 ∷ 120 ∷ 120 ∷ 120 ∷ 120 ∷ 120 ∷ 120 ∷ 120 ∷ 120 ∷ 120 ∷ 120 ∷ 120 ∷ 120 ∷ 120 ∷ 120 ∷ 120 ∷ 120 ∷ 120 ∷ 120 ∷ 120 ∷ 120 ∷ 120 ∷ 120 ∷ 120 ∷ 120 ∷ 120 ∷ 120 ∷ 120 ∷ 120 ∷ 120 ∷ 120 ∷ 120 ∷ 120 ∷ 120 ∷ 120 ∷ 120 ∷ 1 ∷ 121 ∷ 0 ∷ []))
+unfolding address_read part_at_front part_after_dot digits decode_pairs based_number flag_spelled message_type_spelled message_type_word hexadecimal_spelled route_spelled
+example_35 = refl
+
+example_36 : data_spelled Names (codes "xxxxxxxxxxxxxxxxxxxxxxxxxxxxxxxxxxxxxxxxxxxxxxxxxxxxxxxxxxxxxxxx") ≡ None
+unfolding address_read part_at_front part_after_dot digits decode_pairs based_number flag_spelled message_type_spelled message_type_word hexadecimal_spelled route_spelled
+example_36 = refl
+
+example_37 : data_spelled Bytes (codes "0x01:02 0a") ≡ (Some (1 ∷ 2 ∷ 10 ∷ []))
+unfolding address_read part_at_front part_after_dot digits decode_pairs based_number flag_spelled message_type_spelled message_type_word hexadecimal_spelled route_spelled
+example_37 = refl
+
+example_38 : data_spelled MessageType (codes "5") ≡ (Some (5 ∷ []))
+unfolding address_read part_at_front part_after_dot digits decode_pairs based_number flag_spelled message_type_spelled message_type_word hexadecimal_spelled route_spelled
+example_38 = refl
+
+example_39 : data_spelled Routes (codes "10.0.0.0/8 - 192.0.2.1, 198.51.100.0/24 - 192.0.2.2") ≡ (Some (8 ∷ 10 ∷ 192 ∷ 0 ∷ 2 ∷ 1 ∷ 24 ∷ 198 ∷ 51 ∷ 100 ∷ 192 ∷ 0 ∷ 2 ∷ 2 ∷ []))
+unfolding address_read part_at_front part_after_dot digits decode_pairs based_number flag_spelled message_type_spelled message_type_word hexadecimal_spelled route_spelled
+example_39 = refl
+
+example_40 : data_spelled Routes (codes "0.0.0.0/0-192.0.2.1") ≡ (Some (0 ∷ 192 ∷ 0 ∷ 2 ∷ 1 ∷ []))
+unfolding address_read part_at_front part_after_dot digits decode_pairs based_number flag_spelled message_type_spelled message_type_word hexadecimal_spelled route_spelled
+example_40 = refl
+
+example_41 : data_spelled Routes (codes "10.229.0.128/25 - 10.229.0.1") ≡ (Some (25 ∷ 10 ∷ 229 ∷ 0 ∷ 128 ∷ 10 ∷ 229 ∷ 0 ∷ 1 ∷ []))
+unfolding address_read part_at_front part_after_dot digits decode_pairs based_number flag_spelled message_type_spelled message_type_word hexadecimal_spelled route_spelled
+example_41 = refl
+
+example_42 : data_spelled Routes (codes "10.1.2.3/8 - 192.0.2.1") ≡ None
+unfolding address_read part_at_front part_after_dot digits decode_pairs based_number flag_spelled message_type_spelled message_type_word hexadecimal_spelled route_spelled
+example_42 = refl
+
+example_43 : data_spelled Routes (codes "10.0.0.0/33 - 192.0.2.1") ≡ None
+unfolding address_read part_at_front part_after_dot digits decode_pairs based_number flag_spelled message_type_spelled message_type_word hexadecimal_spelled route_spelled
+example_43 = refl
+
+example_44 : data_spelled MessageType (codes "1 DISCOVER") ≡ (Some (1 ∷ []))
+unfolding address_read part_at_front part_after_dot digits decode_pairs based_number flag_spelled message_type_spelled message_type_word hexadecimal_spelled route_spelled
+example_44 = refl
+
+example_45 : data_spelled MessageType (codes "9") ≡ None
+unfolding address_read part_at_front part_after_dot digits decode_pairs based_number flag_spelled message_type_spelled message_type_word hexadecimal_spelled route_spelled
+example_45 = refl
+
+example_46 : data_spelled MessageType (codes "2 DISCOVER") ≡ None
+unfolding address_read part_at_front part_after_dot digits decode_pairs based_number flag_spelled message_type_spelled message_type_word hexadecimal_spelled route_spelled
+example_46 = refl
+
+example_47 : data_spelled Pairs (codes "192.0.2.0") ≡ None
+unfolding address_read part_at_front part_after_dot digits decode_pairs based_number flag_spelled message_type_spelled message_type_word hexadecimal_spelled route_spelled
+example_47 = refl
+
+example_48 : data_spelled Bytes ([]) ≡ None
+unfolding address_read part_at_front part_after_dot digits decode_pairs based_number flag_spelled message_type_spelled message_type_word hexadecimal_spelled route_spelled
+example_48 = refl

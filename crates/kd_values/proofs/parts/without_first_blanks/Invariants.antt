@@ -1,0 +1,10 @@
+use Rattle.std.proofs.Common.{◌≡◌, length}
+use Rattle.kd_expr.specs.Lexical.{a_blank}
+use Rattle.kd_expr.specs.Lexing.{behind_of}
+use Rattle.kd_values.proofs.parts.without_first_blanks.Given as goal
+
+abbrev pub invariant-loop-left : goal.invariant-loop-left
+invariant-loop-left l = behind_of a_blank l.left ≡ behind_of a_blank l.text
+
+abbrev pub decreases-loop-left : goal.decreases-loop-left
+decreases-loop-left l = length l.left

@@ -1,0 +1,30 @@
+-- What kd_names prints for a value is read back as this value.
+use Rattle.std.specs.Prelude.{◌≡◌, ℕ, ◌&&◌, ◌||◌, ◌==◌, not, Bool, true, nat_le, List, Some}
+use Rattle.std.specs.List.{flat_map, list_all}
+use Rattle.hex.specs.Hex.{IsBytes}
+use Rattle.kd_names.specs.Values.{fits_kind, sign_text, text_by_kind}
+use Rattle.kd_names.specs.declared.kind.Kind.{Kind}
+use Rattle.kd_names.specs.declared.kind.Kind.TheVariants.{Text}
+use Rattle.kd_values.specs.Parts.{trimmed}
+use Rattle.kd_values.specs.Spelled.{data_spelled}
+
+-- a byte of a text that is printed as it is and needs no backslash to be read
+abbrev pub is_plain_sign : ℕ → Bool
+is_plain_sign b = nat_le 32 b && nat_le b 126 && not (b == 34 || b == 44 || b == 92)
+
+-- a value as kd_names prints it, but a text without its quotation marks
+abbrev pub bare_text : Kind → List ℕ → List ℕ
+bare_text Text value = flat_map sign_text value
+bare_text kind value = text_by_kind kind value
+
+-- what the law covers: a text of such bytes that neither begins nor ends with a space; each value
+-- of another type
+abbrev pub PrintsPlainly : Kind → List ℕ → Type 0
+PrintsPlainly Text value = (list_all is_plain_sign value ≡ true) × (trimmed value ≡ value)
+PrintsPlainly kind value = Unit {0}
+
+-- each value that has the form of its type is read back from what is printed
+abbrev pub PrintedReads : Type 0
+PrintedReads =
+    (kind : Kind) (value : List ℕ) → IsBytes value → fits_kind kind value ≡ true
+    → PrintsPlainly kind value → data_spelled kind (bare_text kind value) ≡ Some value

@@ -1,0 +1,7 @@
+pub mod Parts
+pub mod Numbers
+pub mod Signs
+pub mod Digits
+pub mod Names
+pub mod Spelled
+pub mod Laws

@@ -1,0 +1,58 @@
+-- Numbers in option data: decimal digits, or hexadecimal ones after 0x. In an option a number has
+-- one, two or four bytes, the highest first (RFC 2132 section 2).
+use Rattle.std.specs.Prelude.{ℕ, ◌+◌, ◌-◌, ◌*◌, ◌%◌, ◌^◌, ◌==◌, ◌&&◌, ◌||◌, nat_lt, if◌then◌else◌, List, [], ◌∷◌, Option, Some, None, length, option_and_then, option_map}
+use Rattle.std.specs.Int.{to_be_bytes, w16, w32}
+use Rattle.hex.specs.Hex.{hex_digit_value}
+use Rattle.kd_wire.specs.Steps.{◌>>=◌}
+
+-- the value of a digit of a base, which is at most 16
+abbrev pub digit_in : ℕ → ℕ → Option ℕ
+digit_in base c = do
+  d ← hex_digit_value c
+  if nat_lt d base then Some d else None
+
+-- the number that digits of a base give after digits that give n
+abbrev pub number_behind : ℕ → ℕ → List ℕ → Option ℕ
+number_behind base n [] = Some n
+number_behind base n (c ∷ digits) = do
+  d ← digit_in base c
+  number_behind base (base * n + d) digits
+
+-- a number, if it is below a limit
+abbrev pub if_below : ℕ → Option ℕ → Option ℕ
+if_below limit number = option_and_then (λ n. if nat_lt n limit then Some n else None) number
+
+-- the number of one or more digits of a base, if it is below a limit
+unfoldable pub based_number : ℕ → ℕ → List ℕ → Option ℕ
+based_number base limit digits =
+    if length digits == 0 then None else if_below limit (number_behind base 0 digits)
+
+-- the number of decimal digits, or of hexadecimal digits after 0x, if it is below a limit
+abbrev pub number_below : ℕ → List ℕ → Option ℕ
+number_below limit (a ∷ b ∷ digits) =
+    if a == 48 && (b == 120 || b == 88) then based_number 16 limit digits
+    else based_number 10 limit (a ∷ b ∷ digits)
+number_below limit text = based_number 10 limit text
+
+-- a number of one byte
+abbrev pub one_byte_spelled : List ℕ → Option (List ℕ)
+one_byte_spelled text = option_map (λ n. n ∷ []) (number_below 256 text)
+
+-- a number of two bytes
+abbrev pub two_bytes_spelled : List ℕ → Option (List ℕ)
+two_bytes_spelled text = option_map (to_be_bytes w16) (number_below (2 ^ 16) text)
+
+-- a number of four bytes
+abbrev pub four_bytes_spelled : List ℕ → Option (List ℕ)
+four_bytes_spelled text = option_map (to_be_bytes w32) (number_below (2 ^ 32) text)
+
+-- the four bytes of the negative of a number in two's complement
+abbrev pub negative_bytes : ℕ → List ℕ
+negative_bytes n = to_be_bytes w32 ((2 ^ 32 - n) % 2 ^ 32)
+
+-- a number of four bytes in two's complement; a negative one is decimal digits after a minus sign
+abbrev pub signed_spelled : List ℕ → Option (List ℕ)
+signed_spelled (b ∷ digits) =
+    if b == 45 then option_map negative_bytes (based_number 10 (2 ^ 31 + 1) digits)
+    else option_map (to_be_bytes w32) (number_below (2 ^ 31) (b ∷ digits))
+signed_spelled text = option_map (to_be_bytes w32) (number_below (2 ^ 31) text)

@@ -1,0 +1,9 @@
+//! Laws of the definitions, each stated by a function with an empty body.
+
+ghost use Rattle.kd_values.specs.Laws.{PrintedReads};
+
+/// What kd_names prints for a value is read back as this value. Of a text only what stands between
+/// the quotation marks is read, and it must not need a backslash.
+pub fn printed_reads()
+    ensures { PrintedReads }
+{}
