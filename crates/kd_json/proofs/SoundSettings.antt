@@ -12,14 +12,15 @@ use Rattle.kd_json.proofs.Sounds.{bytes_sound, options_sound, prefix_sound, rang
 use Rattle.kd_json.specs.Address.{prefix_spelled, range_spelled}
 use Rattle.kd_json.specs.Class.{class_of, has_class_keys, class_name_in, test_source_in}
 use Rattle.kd_json.specs.Configured.{AreDefinitions}
-use Rattle.kd_json.specs.Document.{accepted_settings, value_spelled, settings_spelled}
+use Rattle.kd_json.specs.Document.{accepted, accepted_settings, value_spelled, settings_spelled}
 use Rattle.kd_json.specs.Lists.{list_of}
 use Rattle.kd_json.specs.Options.{option_list_in}
+use Rattle.kd_json.specs.Sound.{AreSettings, IsEntry}
 use Rattle.kd_json.specs.Pool.{has_pool_keys, pool_of, pool_range}
 use Rattle.kd_json.specs.Reservation.{has_reservation_keys, identity_given, one_identity, reservation_of}
 use Rattle.kd_config.specs.Rules.{may_stand}
 use Rattle.kd_json.specs.Settings.{has_dhcp4_keys, has_root_keys, whole_settings, server_given, dhcp4_settings, settings_with, times_given}
-use Rattle.kd_config.specs.Sound.{AreOptions, AreTimes, IsClass, IsFrom, IsIdentity, IsPool, IsPrefix, IsRange, IsSound, IsSubnet}
+use Rattle.kd_config.specs.Sound.{AreOptions, IsClass, IsFrom, IsIdentity, IsPool, IsPrefix, IsRange, IsSound, IsSubnet}
 use Rattle.kd_json.specs.Subnet.{has_subnet_keys, subnet_prefix, subnet_of, subnet_with}
 use Rattle.kd_json.specs.Values.{address_given, hex_bytes_in, bytes_if_given, number_if_given, text_if_given}
 use Rattle.kd_json.specs.declared.objects.class.ClassEntry.{ClassEntry}
@@ -35,7 +36,7 @@ use Rattle.kd_json.specs.declared.token_file.TokenFile.{TokenFile}
 use Rattle.serde_json.specs.Data.{Data}
 use Rattle.serde_json.specs.Find.{as_str, get}
 
-range_in_sound : (d : Data) (range : Range) → pool_range d ≡ Some range → IsRange range
+pub range_in_sound : (d : Data) (range : Range) → pool_range d ≡ Some range → IsRange range
 unfolding pool_range
 range_in_sound d range e = let text = came_from (as_str d) range_spelled range e in range_sound text.first range text.gives
 
@@ -67,7 +68,7 @@ identity_sound None (Some c) identity f g e = subst IsIdentity (some_is (ClientI
 identity_sound None None identity f g e = absurd (cc)
 identity_sound (Some h) (Some c) identity f g e = absurd (cc)
 
-given_sound : (d : Data) (identity : Identity) → identity_given d ≡ Some identity → IsIdentity identity
+pub given_sound : (d : Data) (identity : Identity) → identity_given d ≡ Some identity → IsIdentity identity
 unfolding identity_given
 given_sound d identity e =
     let hardware = came_from (bytes_if_given 1 16 (get (codes "hw-address") d)) _ identity e in
@@ -85,7 +86,7 @@ reservation_sound d reservation e =
     let address = came_from (option_and_then address_given (get (codes "ip-address") d)) _ reservation identity.gives in
     subst (λ r. IsIdentity r.identity) (some_is _ reservation address.gives) (given_sound d identity.first identity.is)
 
-prefix_in_sound : (d : Data) (prefix : Prefix) → subnet_prefix d ≡ Some prefix → IsPrefix prefix
+pub prefix_in_sound : (d : Data) (prefix : Prefix) → subnet_prefix d ≡ Some prefix → IsPrefix prefix
 unfolding subnet_prefix
 prefix_in_sound d prefix e = let text = came_from (as_str d) prefix_spelled prefix e in prefix_sound text.first prefix text.gives
 
@@ -109,12 +110,7 @@ subnet_sound d subnet e =
       options = options_sound (get (codes "option-data") d) options.first options.is;
     })
 
--- what holds of a class as the text gives it
-record IsEntry (entry : ClassEntry) : Type 0 where
-  name : IsFrom 1 255 (length entry.name)
-  options : AreOptions entry.options
-
-name_sound : (d : Data) (name : List ℕ) → class_name_in d ≡ Some name → IsFrom 1 255 (length name)
+pub name_sound : (d : Data) (name : List ℕ) → class_name_in d ≡ Some name → IsFrom 1 255 (length name)
 unfolding class_name_in
 name_sound d name e =
     let text = came_from (as_str d) _ name e in
@@ -135,16 +131,7 @@ entry_sound d entry e =
       options = options_sound (get (codes "option-data") d) options.first options.is;
     })
 
--- what holds of settings
-record AreSettings (s : Settings) : Type 0 where
-  server : 1 ≤ s.server
-  times : AreTimes s.times
-  options : AreOptions s.options
-  classes : AllByRecursion IsEntry s.classes
-  few : length s.subnets ≤ 256
-  subnets : AllByRecursion IsSubnet s.subnets
-
-some_server : (n : ℕ) → not (n == 0) ≡ true → 1 ≤ n
+pub some_server : (n : ℕ) → not (n == 0) ≡ true → 1 ≤ n
 some_server zero e = absurd (cc)
 some_server (suc n) e = omega arith
 
@@ -200,19 +187,33 @@ classes_sound files (entry ∷ entries) (def ∷ defs) h k accepted = (
   classes_sound files entries defs h.1 k.1 accepted.1,
 )
 
--- the configuration of settings and of definitions of their classes
-pub sound : (text : List ℕ) (files : List TokenFile) (s : Settings) (defs : List ClassDef) → accepted_settings text ≡ Some s → AreDefinitions files s.classes defs → AreInOrder defs
-    → AllByRecursion IsAccepted defs → IsSound (record { server = s.server; times = s.times; options = s.options; classes = defs; subnets = s.subnets })
-unfolding accepted_settings
-sound text files s defs e h order accepted =
-    let written = came_from (settings_spelled text) _ s e in
+-- settings that are accepted obey the rules, and what all that are spelled obey
+pub accepted_sound : (spelled : Option Settings) (s : Settings)
+    → ((x : Settings) → spelled ≡ Some x → AreSettings x) → accepted spelled ≡ Some s
+    → AreSettings s × (may_stand s.subnets ≡ true)
+unfolding accepted
+accepted_sound spelled s each e =
+    let written = came_from spelled _ s e in
     let stand = passed (may_stand written.first.subnets) _ s written.gives in
-    let same = some_is written.first s stand.1 in
-    let known = subst AreSettings same (written_sound text written.first written.is) in
-    record {
-      server = known.server;
-      times = known.times;
-      options = known.options;
-      classes = record { each = classes_sound files s.classes defs known.classes h accepted; ordered = order };
-      subnets = record { few = known.few; each = known.subnets; together = subst (λ x. may_stand x.subnets ≡ true) same stand.0 };
-    }
+    let same = some_is written.first s stand.1 in (
+      subst AreSettings same (each written.first written.is),
+      subst (λ (x : Settings). may_stand x.subnets ≡ true) same stand.0,
+    )
+
+-- the same of the settings of a text
+pub text_sound : (text : List ℕ) (s : Settings) → accepted_settings text ≡ Some s
+    → AreSettings s × (may_stand s.subnets ≡ true)
+text_sound text s e = accepted_sound (settings_spelled text) s (written_sound text) e
+
+-- the configuration of settings and of definitions of their classes
+pub sound : (files : List TokenFile) (s : Settings) (defs : List ClassDef) → AreSettings s
+    → may_stand s.subnets ≡ true → AreDefinitions files s.classes defs → AreInOrder defs
+    → AllByRecursion IsAccepted defs
+    → IsSound (record { server = s.server; times = s.times; options = s.options; classes = defs; subnets = s.subnets })
+sound files s defs known stand h order accepted = record {
+  server = known.server;
+  times = known.times;
+  options = known.options;
+  classes = record { each = classes_sound files s.classes defs known.classes h accepted; ordered = order };
+  subnets = record { few = known.few; each = known.subnets; together = stand };
+}

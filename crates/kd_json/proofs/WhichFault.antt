@@ -1,15 +1,15 @@
 -- Which fault a text has.
-use Rattle.std.proofs.Common.{◌≡◌, ◌≢◌, ℕ, ◌≤◌, Bool, true, false, if◌then◌else◌, List, [], ◌∷◌, ◌++◌, take, codes, Some, None, refl, ap, subst, sym, ◌∙◌, arith, inl, inr}
+use Rattle.std.proofs.Common.{◌≡◌, ◌≢◌, ℕ, ◌≤◌, Bool, true, false, if◌then◌else◌, List, [], ◌∷◌, ◌++◌, take, codes, Option, Some, None, refl, ap, subst, sym, ◌∙◌, arith, inl, inr}
 use Rattle.std.specs.Fmt.{decimal}
 use Rattle.kd_classes.specs.Order.{AreInOrder}
 use Rattle.kd_classes.specs.declared.definition.ClassDef.{ClassDef}
 use Rattle.kd_config.proofs.Tests.{some_is}
 use Rattle.kd_config.specs.Address.{has_address}
 use Rattle.kd_config.specs.Configuration.{Configuration}
-use Rattle.kd_json.specs.Configured.{AreDefinitions, IsConfigured}
-use Rattle.kd_json.specs.Document.{accepted_settings, settings_spelled}
+use Rattle.kd_json.specs.Configured.{AreDefinitions, IsConfigOf, IsConfigured}
+use Rattle.kd_json.specs.Document.{accepted, accepted_settings}
 use Rattle.kd_json.specs.Faults.{config_fault_number}
-use Rattle.kd_json.specs.FirstFault.{all_reserved, path_below, SubnetFails, SubnetsFail, IsFaultOfText}
+use Rattle.kd_json.specs.FirstFault.{all_reserved, path_below, SubnetFails, SubnetsFail, IsFaultOfSettings}
 use Rattle.kd_json.specs.Parts.{classes_fault, settings_fault}
 use Rattle.kd_config.specs.Rules.{lies_within, may_stand}
 use Rattle.kd_json.specs.declared.fault.ConfigFault.{ConfigFault}
@@ -23,21 +23,21 @@ use Rattle.kd_json.specs.declared.objects.settings.Settings.{Settings}
 use Rattle.kd_config.specs.declared.subnet.Subnet.{Subnet}
 use Rattle.kd_json.specs.declared.token_file.TokenFile.{TokenFile}
 
--- the text describes no settings
-pub first_of_settings : (text : List ℕ) (fault : SettingsFault)
-    → (fault ≢ settings.Memory → settings_spelled text ≡ None) → IsFaultOfText text (settings_fault fault)
-first_of_settings text settings.Json h = h (λ e. cc)
-first_of_settings text (settings.Missing path) h = h (λ e. cc)
-first_of_settings text (settings.Unknown path) h = h (λ e. cc)
-first_of_settings text (settings.BadValue path) h = h (λ e. cc)
-first_of_settings text settings.Memory h = tt
+-- no settings are spelled
+pub first_of_settings : (spelled : Option Settings) (fault : SettingsFault)
+    → (fault ≢ settings.Memory → spelled ≡ None) → IsFaultOfSettings spelled (settings_fault fault)
+first_of_settings spelled settings.Json h = h (λ e. cc)
+first_of_settings spelled (settings.Missing path) h = h (λ e. cc)
+first_of_settings spelled (settings.Unknown path) h = h (λ e. cc)
+first_of_settings spelled (settings.BadValue path) h = h (λ e. cc)
+first_of_settings spelled settings.Memory h = tt
 
--- then it describes no settings that are accepted
-pub none_accepted : (text : List ℕ) (fault : SettingsFault)
-    → (fault ≢ settings.Memory → settings_spelled text ≡ None)
-    → settings_fault fault ≢ faults.Memory → accepted_settings text ≡ None
-unfolding accepted_settings
-none_accepted text fault h other = rw (h (λ e. other (ap settings_fault e))) refl
+-- then no settings are accepted
+pub none_accepted : (spelled : Option Settings) (fault : SettingsFault)
+    → (fault ≢ settings.Memory → spelled ≡ None)
+    → settings_fault fault ≢ faults.Memory → accepted spelled ≡ None
+unfolding accepted
+none_accepted spelled fault h other = rw (h (λ e. other (ap settings_fault e))) refl
 
 -- one of two numbers of rules
 between : (b : Bool) (n least most : ℕ) → 74 ≤ least → least ≤ most → most ≤ 76
@@ -64,51 +64,57 @@ rule_number subnets fault h =
     h.subnet fault h.value
 
 -- a rule is broken
-pub first_of_rules : (text : List ℕ) (s : Settings) (fault : ConfigFault)
-    → settings_spelled text ≡ Some s
+pub first_of_rules : (spelled : Option Settings) (s : Settings) (fault : ConfigFault)
+    → spelled ≡ Some s
     → (fault ≢ faults.Memory → SubnetsFail may_stand (codes "/Dhcp4/subnet4") s.subnets fault)
-    → IsFaultOfText text fault
-first_of_rules text s faults.Json e h =
+    → IsFaultOfSettings spelled fault
+first_of_rules spelled s faults.Json e h =
     let n = rule_number s.subnets faults.Json (h (λ k. cc)) in absurd (omega (arith, n.0))
-first_of_rules text s (faults.Missing path) e h =
+first_of_rules spelled s (faults.Missing path) e h =
     let n = rule_number s.subnets (faults.Missing path) (h (λ k. cc)) in absurd (omega (arith, n.0))
-first_of_rules text s (faults.Unknown path) e h =
+first_of_rules spelled s (faults.Unknown path) e h =
     let n = rule_number s.subnets (faults.Unknown path) (h (λ k. cc)) in absurd (omega (arith, n.0))
-first_of_rules text s (faults.BadValue path) e h =
+first_of_rules spelled s (faults.BadValue path) e h =
     let n = rule_number s.subnets (faults.BadValue path) (h (λ k. cc)) in absurd (omega (arith, n.0))
-first_of_rules text s (faults.PoolOutside path) e h =
-    record { settings = s; spelled = e; broken = h (λ k. cc) }
-first_of_rules text s (faults.Overlap path) e h =
-    record { settings = s; spelled = e; broken = h (λ k. cc) }
-first_of_rules text s (faults.DuplicateReservation path) e h =
-    record { settings = s; spelled = e; broken = h (λ k. cc) }
-first_of_rules text s (faults.Expression number why) e h =
+first_of_rules spelled s (faults.PoolOutside path) e h =
+    record { settings = s; given = e; broken = h (λ k. cc) }
+first_of_rules spelled s (faults.Overlap path) e h =
+    record { settings = s; given = e; broken = h (λ k. cc) }
+first_of_rules spelled s (faults.DuplicateReservation path) e h =
+    record { settings = s; given = e; broken = h (λ k. cc) }
+first_of_rules spelled s (faults.Expression number why) e h =
     let n = rule_number s.subnets (faults.Expression number why) (h (λ k. cc)) in
     absurd (omega (arith, n.1))
-first_of_rules text s (faults.Tokens number why) e h =
+first_of_rules spelled s (faults.Tokens number why) e h =
     let n = rule_number s.subnets (faults.Tokens number why) (h (λ k. cc)) in
     absurd (omega (arith, n.1))
-first_of_rules text s (faults.Class why) e h =
+first_of_rules spelled s (faults.Class why) e h =
     let n = rule_number s.subnets (faults.Class why) (h (λ k. cc)) in absurd (omega (arith, n.1))
-first_of_rules text s faults.Memory e h = tt
+first_of_rules spelled s faults.Memory e h = tt
 
 -- the settings are accepted
-pub first_of_classes : (text : List ℕ) (s : Settings) (fault : ClassesFault)
-    → accepted_settings text ≡ Some s → IsFaultOfText text (classes_fault fault)
-first_of_classes text s (classes.Expression number why) e = record { settings = s; accepted = e }
-first_of_classes text s (classes.Tokens number why) e = record { settings = s; accepted = e }
-first_of_classes text s (classes.Class why) e = record { settings = s; accepted = e }
-first_of_classes text s classes.Memory e = tt
+pub first_of_classes : (spelled : Option Settings) (s : Settings) (fault : ClassesFault)
+    → accepted spelled ≡ Some s → IsFaultOfSettings spelled (classes_fault fault)
+first_of_classes spelled s (classes.Expression number why) e = record { settings = s; kept = e }
+first_of_classes spelled s (classes.Tokens number why) e = record { settings = s; kept = e }
+first_of_classes spelled s (classes.Class why) e = record { settings = s; kept = e }
+first_of_classes spelled s classes.Memory e = tt
 
 -- settings whose classes have no accepted definitions give no configuration
-pub none_configured : (text : List ℕ) (files : List TokenFile) (s : Settings)
-    (entries : List ClassEntry) (fault : ClassesFault) → accepted_settings text ≡ Some s
-    → entries ≡ s.classes
+pub none_of_settings : (files : List TokenFile) (s : Settings) (entries : List ClassEntry)
+    (fault : ClassesFault) → entries ≡ s.classes
     → (fault ≢ classes.Memory → (defs : List ClassDef) → AreDefinitions files entries defs
     → AreInOrder defs → ⊥)
+    → fault ≢ classes.Memory → (c : Configuration) → IsConfigOf s files c → ⊥
+none_of_settings files s entries fault is none other c h =
+    none other c.classes
+    (subst (λ (x : List ClassEntry). AreDefinitions files x c.classes) (sym is) h.classes) h.ordered
+
+-- then their text gives none
+pub none_configured : (text : List ℕ) (files : List TokenFile) (s : Settings)
+    (fault : ClassesFault) → accepted_settings text ≡ Some s
+    → (fault ≢ classes.Memory → (c : Configuration) → IsConfigOf s files c → ⊥)
     → classes_fault fault ≢ faults.Memory → (c : Configuration) → IsConfigured text files c → ⊥
-none_configured text files s entries fault e is none other c h =
-    let same = some_is h.settings s (sym h.written ∙ e) in
-    let written = ap (λ (x : Settings). x.classes) same ∙ sym is in
-    none (λ k. other (ap classes_fault k)) c.classes
-    (subst (λ (x : List ClassEntry). AreDefinitions files x c.classes) written h.classes) h.ordered
+none_configured text files s fault e none other c h =
+    none (λ k. other (ap classes_fault k)) c
+    (subst (λ (x : Settings). IsConfigOf x files c) (some_is h.settings s (sym h.written ∙ e)) h.made)

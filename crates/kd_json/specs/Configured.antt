@@ -67,13 +67,18 @@ AreDefinitions files (entry ∷ entries) [] = ⊥
 AreDefinitions files (entry ∷ entries) (def ∷ defs) =
     IsDefinition files entry def × AreDefinitions files entries defs
 
--- the configuration that a text describes, together with token files
-pub record IsConfigured (text : List ℕ) (files : List TokenFile) (c : Configuration) : Type 0 where
-  pub settings : Settings
-  pub written : accepted_settings text ≡ Some settings
+-- the configuration of settings, together with token files
+pub record IsConfigOf (settings : Settings) (files : List TokenFile)
+    (c : Configuration) : Type 0 where
   pub server : c.server ≡ settings.server
   pub times : c.times ≡ settings.times
   pub options : c.options ≡ settings.options
   pub subnets : c.subnets ≡ settings.subnets
   pub classes : AreDefinitions files settings.classes c.classes
   pub ordered : AreInOrder c.classes
+
+-- the configuration that a text describes, together with token files
+pub record IsConfigured (text : List ℕ) (files : List TokenFile) (c : Configuration) : Type 0 where
+  pub settings : Settings
+  pub written : accepted_settings text ≡ Some settings
+  pub made : IsConfigOf settings files c

@@ -17,9 +17,13 @@ value_spelled text = if is_utf8 text then json.read text else None
 unfoldable pub settings_spelled : List ℕ → Option Settings
 settings_spelled text = value_spelled text >>= whole_settings
 
--- the same, if its subnets obey the rules together
-unfoldable pub accepted_settings : List ℕ → Option Settings
-accepted_settings text = do
-  settings ← settings_spelled text
+-- settings, if there are any and their subnets obey the rules together
+unfoldable pub accepted : Option Settings → Option Settings
+accepted spelled = do
+  settings ← spelled
   _ ← must (may_stand settings.subnets)
   Some settings
+
+-- the settings that a text describes, if they are accepted
+abbrev pub accepted_settings : List ℕ → Option Settings
+accepted_settings text = accepted (settings_spelled text)

@@ -1,11 +1,11 @@
 -- Which fault a text has that describes no configuration (our own format): it describes no
 -- settings; or a rule is broken, the first one subnet by subnet, in each subnet first by its pools
 -- and then by its reservations; or a class of it is refused.
-use Rattle.std.specs.Prelude.{◌≡◌, ◌⊎◌, ℕ, ◌+◌, Bool, true, false, if◌then◌else◌, List, [], ◌∷◌, ◌++◌, take, codes, slice_get, Some, None}
+use Rattle.std.specs.Prelude.{◌≡◌, ◌⊎◌, ℕ, ◌+◌, Bool, true, false, if◌then◌else◌, List, [], ◌∷◌, ◌++◌, take, codes, slice_get, Option, Some, None}
 use Rattle.std.specs.Fmt.{decimal}
 use Rattle.std.specs.List.{flat_map}
 use Rattle.kd_config.specs.Address.{has_address}
-use Rattle.kd_json.specs.Document.{accepted_settings, settings_spelled}
+use Rattle.kd_json.specs.Document.{accepted, settings_spelled}
 use Rattle.kd_json.specs.Faults.{config_fault_number, fault_path}
 use Rattle.kd_config.specs.Rules.{lies_within, may_reserve, may_stand, reserved}
 use Rattle.kd_json.specs.declared.fault.ConfigFault.{ConfigFault}
@@ -91,28 +91,33 @@ pub record SubnetsFail (test : List Subnet → Bool) (path : List ℕ) (subnets 
   pub value : SubnetFails (λ s. test (take place subnets ++ s ∷ []))
       (path_below path (decimal place)) (all_reserved (take place subnets)) subnet fault
 
--- the text describes settings; a value of their subnets is the first that breaks a rule
-pub record BreaksRule (text : List ℕ) (fault : ConfigFault) : Type 0 where
+-- there are settings; a value of their subnets is the first that breaks a rule
+pub record BreaksRule (spelled : Option Settings) (fault : ConfigFault) : Type 0 where
   pub settings : Settings
-  pub spelled : settings_spelled text ≡ Some settings
+  pub given : spelled ≡ Some settings
   pub broken : SubnetsFail may_stand (codes "/Dhcp4/subnet4") settings.subnets fault
 
--- the text describes settings whose subnets obey the rules
-pub record KeepsRules (text : List ℕ) : Type 0 where
+-- there are settings whose subnets obey the rules
+pub record KeepsRules (spelled : Option Settings) : Type 0 where
   pub settings : Settings
-  pub accepted : accepted_settings text ≡ Some settings
+  pub kept : accepted spelled ≡ Some settings
 
--- this is the first fault of a text: of its settings, of the rules, or of its classes
+-- this is the first fault of the settings that a text spells, or of a text that spells none: of the
+-- settings, of the rules, or of the classes
+abbrev pub IsFaultOfSettings : Option Settings → ConfigFault → Type 0
+IsFaultOfSettings spelled faults.Json = spelled ≡ None
+IsFaultOfSettings spelled (faults.Missing path) = spelled ≡ None
+IsFaultOfSettings spelled (faults.Unknown path) = spelled ≡ None
+IsFaultOfSettings spelled (faults.BadValue path) = spelled ≡ None
+IsFaultOfSettings spelled (faults.PoolOutside path) = BreaksRule spelled (faults.PoolOutside path)
+IsFaultOfSettings spelled (faults.Overlap path) = BreaksRule spelled (faults.Overlap path)
+IsFaultOfSettings spelled (faults.DuplicateReservation path) =
+    BreaksRule spelled (faults.DuplicateReservation path)
+IsFaultOfSettings spelled (faults.Expression number why) = KeepsRules spelled
+IsFaultOfSettings spelled (faults.Tokens number why) = KeepsRules spelled
+IsFaultOfSettings spelled (faults.Class why) = KeepsRules spelled
+IsFaultOfSettings spelled faults.Memory = Unit {0}
+
+-- this is the first fault of a text
 abbrev pub IsFaultOfText : List ℕ → ConfigFault → Type 0
-IsFaultOfText text faults.Json = settings_spelled text ≡ None
-IsFaultOfText text (faults.Missing path) = settings_spelled text ≡ None
-IsFaultOfText text (faults.Unknown path) = settings_spelled text ≡ None
-IsFaultOfText text (faults.BadValue path) = settings_spelled text ≡ None
-IsFaultOfText text (faults.PoolOutside path) = BreaksRule text (faults.PoolOutside path)
-IsFaultOfText text (faults.Overlap path) = BreaksRule text (faults.Overlap path)
-IsFaultOfText text (faults.DuplicateReservation path) =
-    BreaksRule text (faults.DuplicateReservation path)
-IsFaultOfText text (faults.Expression number why) = KeepsRules text
-IsFaultOfText text (faults.Tokens number why) = KeepsRules text
-IsFaultOfText text (faults.Class why) = KeepsRules text
-IsFaultOfText text faults.Memory = Unit {0}
+IsFaultOfText text fault = IsFaultOfSettings (settings_spelled text) fault

@@ -14,5 +14,6 @@ pub mod Settings
 pub mod Document
 pub mod Parts
 pub mod Configured
+pub mod Sound
 pub mod Alike
 pub mod FirstFault

@@ -7,15 +7,18 @@
 //! whole configuration (`specs/Rules.antt` of kd_config). Each class test is a program that its
 //! text compiles to or that its token file contains, and the classes are in order. A fault says
 //! what is wrong and where: the first in the text (`specs/FirstFault.antt`).
+//!
+//! A reader of another text with the same values takes its parts from `objects` and `rules`, and
+//! makes its configuration by `config_of`.
 #![tactic(auto)]
 
 mod fault;
-mod objects;
+pub mod objects;
 mod read;
-mod rules;
+pub mod rules;
 mod text;
 mod token_file;
 
 pub use fault::{ConfigFault, FileTestFault, TestFault};
-pub use read::read_config;
+pub use read::{config_of, read_config};
 pub use token_file::TokenFile;

@@ -1,12 +1,16 @@
-ghost use Rattle.std.specs.Prelude.{◌≡◌, ◌≢◌, IfErr, IfOk};
+ghost use Rattle.std.specs.Prelude.{◌≡◌, ◌≢◌, IfErr, IfOk, true};
 ghost use Rattle.kd_config.specs.Configuration.{Configuration};
-ghost use Rattle.kd_json.specs.Configured.{IsConfigured};
+ghost use Rattle.kd_config.specs.Rules.{may_stand};
+ghost use Rattle.kd_json.specs.Configured.{IsConfigOf, IsConfigured};
 ghost use Rattle.kd_json.specs.FirstFault.{IsFaultOfText};
+ghost use Rattle.kd_json.specs.Sound.{AreSettings};
 ghost use Rattle.kd_json.specs.declared.fault.ConfigFault.TheVariants.{Memory};
+ghost use Rattle.kd_json.specs.declared.objects.faults.ClassesFault.TheVariants as classes;
 
 use crate::fault::ConfigFault;
 use crate::objects::definitions::classes_in;
 use crate::objects::document::settings_in;
+use crate::objects::faults::ClassesFault;
 use crate::objects::settings::Settings;
 use crate::token_file::TokenFile;
 use kd_config::Config;
@@ -27,13 +31,35 @@ pub fn read_config(alloc: Global, text: &[u8], files: &[TokenFile]) -> Result<Co
         (λ fault. fault ≢ Memory → (c : Configuration) → IsConfigured text.now files.now c → ⊥) }
     ensures first { IfErr result (λ fault. IsFaultOfText text.now fault) }
 {
+    let settings = settings_in(alloc, text)?;
+    Ok(config_of(alloc, settings, files)?)
+}
+
+/// Makes the configuration of settings that are accepted: it has their values, and programs of the
+/// tests of their classes. If several files have the same name, the first is used.
+///
+/// # Errors
+///
+/// Class by class, `Expression` or `Tokens`; then `Class`. `Memory` can replace any result.
+pub fn config_of(
+    alloc: Global,
+    settings: Settings,
+    files: &[TokenFile],
+) -> Result<Config, ClassesFault>
+    requires sound { AreSettings settings }
+    requires stands { may_stand settings.subnets ≡ true }
+    ensures found { IfOk result (λ c. IsConfigOf settings files.now c) }
+    ensures refused { IfErr result
+        (λ fault. fault ≢ classes.Memory → (c : Configuration) → IsConfigOf settings files.now c
+        → ⊥) }
+{
     let Settings {
         server,
         times,
         options,
         classes,
         subnets,
-    } = settings_in(alloc, text)?;
+    } = settings;
     let classes = classes_in(alloc, classes.into_vec(), files)?;
     Ok(Config::of(server, times, options, classes, subnets))
 }

@@ -42,6 +42,8 @@ mod many;
 #[cfg(test)]
 mod places;
 #[cfg(test)]
+mod plain;
+#[cfg(test)]
 mod record;
 #[cfg(test)]
 mod replay;

@@ -17,6 +17,7 @@ pub mod event;
 pub mod expr;
 pub mod io;
 pub mod json;
+pub mod kea;
 pub mod keeps;
 pub mod lease;
 pub mod log;

@@ -6,7 +6,7 @@ ghost use Rattle.kd_json.specs.Steps.{must};
 ghost use Rattle.kd_json.specs.declared.objects.faults.SettingsFault.TheVariants.{Memory};
 
 use crate::objects::faults::SettingsFault;
-use crate::objects::lists::Entry;
+use crate::objects::lists::EntryReader;
 use crate::objects::options::options_of;
 use crate::objects::values::{check_keys, own_bytes, text_or_none};
 use crate::rules::place::{Place, bad_value};
@@ -15,33 +15,43 @@ use kd_wire::Bytes;
 use serde_json::Value;
 use std::alloc::Global;
 
-// Where the test of a class comes from.
+/// Where the test of a class comes from.
 #[derive(Drop)]
-pub(crate) enum TestSource {
-    // There is no test.
+pub enum TestSource {
+    /// There is no test.
     Nothing,
-    // The text of an expression.
+    /// The text of an expression.
     Expression(Bytes),
-    // The name of a token file.
+    /// The name of a token file.
     TokenFile(Bytes),
 }
 
-// A client class as the text gives it.
+/// A client class as the text gives it.
 #[derive(Drop)]
-pub(crate) struct ClassEntry {
-    // Its name, 1 to 255 bytes.
-    pub(crate) name: Bytes,
-    // Its test.
-    pub(crate) source: TestSource,
-    // The options of the replies to its members.
-    pub(crate) options: OptionList,
+pub struct ClassEntry {
+    /// Its name, 1 to 255 bytes.
+    pub name: Bytes,
+    /// Its test.
+    pub source: TestSource,
+    /// The options of the replies to its members.
+    pub options: OptionList,
 }
 
-impl Entry for ClassEntry {
-    ghost means = { class_of };
+// Reads classes.
+pub(crate) struct ClassReader;
+
+impl EntryReader for ClassReader {
+    type Entry = ClassEntry;
+
+    ghost means = { λ _. class_of };
 
     #[tactic(auto, unfolding(crate::specs::Class::class_of))]
-    fn read(alloc: Global, value: &Value, at: &Place<'_>) -> Result<ClassEntry, SettingsFault> {
+    fn read(
+        &self,
+        alloc: Global,
+        value: &Value,
+        at: &Place<'_>,
+    ) -> Result<ClassEntry, SettingsFault> {
         check_class(alloc, value, at)?;
         let name = match value.get("name").and_then(name_in) {
             Some(name) => own_bytes(alloc, name)?,
@@ -66,9 +76,9 @@ fn check_class(alloc: Global, value: &Value, at: &Place<'_>) -> Result<(), Setti
     check_keys(alloc, value, at, &known, &["name"])
 }
 
-// Returns the name of a class: 1 to 255 bytes.
+/// Returns the name of a class: 1 to 255 bytes.
 #[tactic(auto, unfolding(crate::specs::Class::class_name_in))]
-fn name_in(value: &Value) -> Option<&[u8]>
+pub fn name_in(value: &Value) -> Option<&[u8]>
     ensures { option_map (λ name. name.now) result ≡ class_name_in (view value.now) }
 {
     let name = value.as_str()?.as_bytes();

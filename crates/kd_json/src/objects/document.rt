@@ -17,7 +17,7 @@ use serde_json::Value;
 use std::alloc::Global;
 
 // Reads the settings that a text describes, if its subnets obey the rules together.
-#[tactic(auto, unfolding(crate::specs::Document::accepted_settings))]
+#[tactic(auto, unfolding(crate::specs::Document::accepted))]
 pub(crate) fn settings_in(alloc: Global, text: &[u8]) -> Result<Settings, ConfigFault>
     ensures meant { Means faults.Memory result (accepted_settings text.now) }
     ensures first { IfErr result (λ fault. IsFaultOfText text.now fault) }
@@ -27,8 +27,13 @@ pub(crate) fn settings_in(alloc: Global, text: &[u8]) -> Result<Settings, Config
     Ok(settings)
 }
 
-// Checks that the subnets obey the rules together.
-fn check_subnets(alloc: Global, settings: &Settings) -> Result<(), ConfigFault>
+/// Checks that the subnets of settings obey the rules together.
+///
+/// # Errors
+///
+/// The first value that breaks a rule, subnet by subnet: `PoolOutside`, `Overlap` or
+/// `DuplicateReservation` with its path below `/Dhcp4/subnet4`; `Memory`.
+pub fn check_subnets(alloc: Global, settings: &Settings) -> Result<(), ConfigFault>
     ensures checked { Means faults.Memory result (must (may_stand settings.now.subnets)) }
     ensures first { IfErr result (λ fault. fault ≢ faults.Memory
         → SubnetsFail may_stand (codes "/Dhcp4/subnet4") settings.now.subnets fault) }
@@ -48,9 +53,13 @@ fn written_settings(alloc: Global, text: &[u8]) -> Result<Settings, SettingsFaul
     root_of(alloc, &value)
 }
 
-// Parses the JSON value of a text.
+/// Parses the JSON value of a text in UTF-8.
+///
+/// # Errors
+///
+/// `Json` if it is no JSON; `Memory`.
 #[tactic(auto, using(crate::proofs::Documents::spelled, crate::proofs::Documents::not_spelled))]
-fn value_of(alloc: Global, text: &[u8]) -> Result<Value, SettingsFault>
+pub fn value_of(alloc: Global, text: &[u8]) -> Result<Value, SettingsFault>
     ensures { GivesAs Memory view result (value_spelled text.now) }
 {
     match Value::from_slice(alloc, text) {

@@ -4,31 +4,31 @@ use crate::fault::{ConfigFault, FileTestFault, TestFault};
 use kd_classes::ClassFault;
 use std::alloc::{AllocError, AllocFailed};
 
-// Why a text describes no settings.
+/// Why a text describes no settings.
 #[derive(Drop)]
-pub(crate) enum SettingsFault {
-    // The text is not JSON.
+pub enum SettingsFault {
+    /// The text is not JSON.
     Json,
-    // A required key is missing; its path.
+    /// A required key is missing; its path.
     Missing(String),
-    // A key is not known; its path.
+    /// A key is not known; its path.
     Unknown(String),
-    // A value has the wrong type or is not allowed; its path.
+    /// A value has the wrong type or is not allowed; its path.
     BadValue(String),
-    // There is not enough memory for the settings.
+    /// There is not enough memory for the settings.
     Memory,
 }
 
-// Why the classes of settings have no definitions that are accepted.
+/// Why the classes of settings have no definitions that are accepted.
 #[derive(Drop)]
-pub(crate) enum ClassesFault {
-    // The text of a class's test has no program; the index of the class, and why.
+pub enum ClassesFault {
+    /// The text of a class's test has no program; the index of the class, and why.
     Expression(usize, TestFault),
-    // The token file of a class's test has no program; the index of the class, and why.
+    /// The token file of a class's test has no program; the index of the class, and why.
     Tokens(usize, FileTestFault),
-    // The definitions are refused.
+    /// The definitions are refused.
     Class(ClassFault),
-    // There is not enough memory for the definitions.
+    /// There is not enough memory for the definitions.
     Memory,
 }
 

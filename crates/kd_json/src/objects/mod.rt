@@ -1,16 +1,16 @@
 //! The objects of a configuration, from the document down to a single value: their keys, and what
 //! they describe.
 
-mod class;
+pub mod class;
 pub(crate) mod definitions;
-pub(crate) mod document;
-pub(crate) mod faults;
-mod lists;
-mod options;
-mod pool;
+pub mod document;
+pub mod faults;
+pub mod lists;
+pub mod options;
+pub mod pool;
 mod program;
-mod reservation;
-pub(crate) mod settings;
-mod subnet;
+pub mod reservation;
+pub mod settings;
+pub mod subnet;
 mod times;
-mod values;
+pub mod values;

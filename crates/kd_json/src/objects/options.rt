@@ -82,9 +82,10 @@ fn check_option(alloc: Global, value: &Value, at: &Place<'_>) -> Result<(), Sett
     check_keys(alloc, value, at, &keys, &keys)
 }
 
-// Returns the code of an option that may be configured.
+/// Returns the code of an option that may be configured: 1 to 254, and not one that the server
+/// generates itself.
 #[tactic(auto, unfolding(crate::specs::Options::code_given))]
-fn code_in(value: &Value) -> Option<u8>
+pub fn code_in(value: &Value) -> Option<u8>
     ensures { result ≡ code_given (view value.now) }
 {
     let code = number_in(value, 1, 254)? as u8;
@@ -95,8 +96,8 @@ fn code_in(value: &Value) -> Option<u8>
     }
 }
 
-// Reports whether one of these options has the code.
-fn has_code(code: u8, options: &[OptionData]) -> bool
+/// Reports whether one of these options has the code.
+pub fn has_code(code: u8, options: &[OptionData]) -> bool
     ensures { result ≡ code_among code options.now }
 {
     options.iter().any(|option| option.code == code)

@@ -6,7 +6,7 @@ ghost use Rattle.kd_json.specs.Steps.{must};
 ghost use Rattle.kd_json.specs.declared.objects.faults.SettingsFault.TheVariants.{Memory};
 
 use crate::objects::faults::SettingsFault;
-use crate::objects::lists::Entry;
+use crate::objects::lists::EntryReader;
 use crate::objects::options::options_of;
 use crate::objects::values::check_keys;
 use crate::rules::place::{Place, bad_value};
@@ -15,11 +15,16 @@ use kd_config::{Pool, Range};
 use serde_json::Value;
 use std::alloc::Global;
 
-impl Entry for Pool {
-    ghost means = { pool_of };
+// Reads pools.
+pub(crate) struct PoolReader;
+
+impl EntryReader for PoolReader {
+    type Entry = Pool;
+
+    ghost means = { λ _. pool_of };
 
     #[tactic(auto, unfolding(crate::specs::Pool::pool_of))]
-    fn read(alloc: Global, value: &Value, at: &Place<'_>) -> Result<Pool, SettingsFault> {
+    fn read(&self, alloc: Global, value: &Value, at: &Place<'_>) -> Result<Pool, SettingsFault> {
         check_pool(alloc, value, at)?;
         let Some(range) = value.get("pool").and_then(range_in) else {
             return Err(bad_value(alloc, at, "pool"));
@@ -37,9 +42,9 @@ fn check_pool(alloc: Global, value: &Value, at: &Place<'_>) -> Result<(), Settin
     check_keys(alloc, value, at, &["pool", "option-data"], &["pool"])
 }
 
-// Returns the addresses of a pool.
+/// Returns the addresses of a pool: at least 1, at most 65,536.
 #[tactic(auto, unfolding(crate::specs::Pool::pool_range))]
-fn range_in(value: &Value) -> Option<Range>
+pub fn range_in(value: &Value) -> Option<Range>
     ensures { result ≡ pool_range (view value.now) }
 {
     range_of(value.as_str()?.as_bytes())

@@ -6,7 +6,7 @@ ghost use Rattle.kd_json.specs.Steps.{must};
 ghost use Rattle.kd_json.specs.declared.objects.faults.SettingsFault.TheVariants.{Memory};
 
 use crate::objects::faults::SettingsFault;
-use crate::objects::lists::Entry;
+use crate::objects::lists::EntryReader;
 use crate::objects::values::{address_in, bytes_or_none, check_keys};
 use crate::rules::place::{Place, bad_value, missing};
 use kd_config::{Identity, Reservation};
@@ -14,11 +14,21 @@ use kd_wire::Bytes;
 use serde_json::Value;
 use std::alloc::Global;
 
-impl Entry for Reservation {
-    ghost means = { reservation_of };
+// Reads reservations.
+pub(crate) struct ReservationReader;
+
+impl EntryReader for ReservationReader {
+    type Entry = Reservation;
+
+    ghost means = { λ _. reservation_of };
 
     #[tactic(auto, unfolding(crate::specs::Reservation::reservation_of))]
-    fn read(alloc: Global, value: &Value, at: &Place<'_>) -> Result<Reservation, SettingsFault> {
+    fn read(
+        &self,
+        alloc: Global,
+        value: &Value,
+        at: &Place<'_>,
+    ) -> Result<Reservation, SettingsFault> {
         check_reservation(alloc, value, at)?;
         let identity = identity_in(alloc, value, at)?;
         match value.get("ip-address").and_then(address_in) {
@@ -37,9 +47,14 @@ fn check_reservation(alloc: Global, value: &Value, at: &Place<'_>) -> Result<(),
     check_keys(alloc, value, at, &known, &["ip-address"])
 }
 
-// Reads the client of a reservation.
+/// Reads the client of a reservation: the hexadecimal bytes at `hw-address`, 1 to 16, or at
+/// `client-id`, 1 to 255.
+///
+/// # Errors
+///
+/// `BadValue` for a value that is not such bytes, and if both keys are there; `Missing` if none is.
 #[tactic(auto, unfolding(crate::specs::Reservation::identity_given))]
-fn identity_in(alloc: Global, value: &Value, at: &Place<'_>) -> Result<Identity, SettingsFault>
+pub fn identity_in(alloc: Global, value: &Value, at: &Place<'_>) -> Result<Identity, SettingsFault>
     ensures { Means Memory result (identity_given (view value.now)) }
 {
     let hardware = bytes_or_none(alloc, value, at, "hw-address", 16)?;

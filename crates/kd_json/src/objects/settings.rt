@@ -5,10 +5,11 @@ ghost use Rattle.kd_json.specs.Settings.{has_dhcp4_keys, has_root_keys, whole_se
 ghost use Rattle.kd_json.specs.Steps.{must};
 ghost use Rattle.kd_json.specs.declared.objects.faults.SettingsFault.TheVariants.{Memory};
 
-use crate::objects::class::ClassEntry;
+use crate::objects::class::{ClassEntry, ClassReader};
 use crate::objects::faults::SettingsFault;
 use crate::objects::lists::entries_of;
 use crate::objects::options::options_of;
+use crate::objects::subnet::SubnetReader;
 use crate::objects::times::times_of;
 use crate::objects::values::{address_in, check_keys};
 use crate::rules::place::{Place, bad_value, missing};
@@ -18,19 +19,19 @@ use kd_wire::Entries;
 use serde_json::Value;
 use std::alloc::Global;
 
-// The settings of a configuration as the text gives them.
+/// The settings of a configuration as the text gives them: the tests of classes are not read.
 #[derive(Drop)]
-pub(crate) struct Settings {
-    // The address of the server.
-    pub(crate) server: u32,
-    // The lease and offer times.
-    pub(crate) times: Times,
-    // The options of all replies.
-    pub(crate) options: OptionList,
-    // The classes.
-    pub(crate) classes: Entries<ClassEntry>,
-    // The subnets.
-    pub(crate) subnets: Entries<Subnet>,
+pub struct Settings {
+    /// The address of the server, in host order; not 0.
+    pub server: u32,
+    /// The lease and offer times, in seconds.
+    pub times: Times,
+    /// The options of all replies.
+    pub options: OptionList,
+    /// The classes.
+    pub classes: Entries<ClassEntry>,
+    /// The subnets.
+    pub subnets: Entries<Subnet>,
 }
 
 // Reads the settings that the JSON value of a whole text describes.
@@ -71,8 +72,8 @@ fn settings_of_lists(
     ensures { Means Memory result (settings_with server times (view value.now)) }
 {
     let options = options_of(alloc, value, at)?;
-    let classes = entries_of(alloc, value, at, "client-classes", 256)?;
-    let subnets = entries_of(alloc, value, at, "subnet4", 256)?;
+    let classes = entries_of(alloc, value, at, "client-classes", 256, &ClassReader)?;
+    let subnets = entries_of(alloc, value, at, "subnet4", 256, &SubnetReader)?;
     Ok(Settings {
         server,
         times,

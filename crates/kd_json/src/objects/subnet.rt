@@ -6,8 +6,10 @@ ghost use Rattle.kd_json.specs.Subnet.{has_subnet_keys, subnet_of, subnet_prefix
 ghost use Rattle.kd_json.specs.declared.objects.faults.SettingsFault.TheVariants.{Memory};
 
 use crate::objects::faults::SettingsFault;
-use crate::objects::lists::{Entry, entries_of};
+use crate::objects::lists::{EntryReader, entries_of};
 use crate::objects::options::options_of;
+use crate::objects::pool::PoolReader;
+use crate::objects::reservation::ReservationReader;
 use crate::objects::values::{check_keys, number_or, text_or_none};
 use crate::rules::place::{Place, bad_value};
 use crate::text::prefix::prefix_of;
@@ -16,11 +18,16 @@ use kd_wire::Bytes;
 use serde_json::Value;
 use std::alloc::Global;
 
-impl Entry for Subnet {
-    ghost means = { subnet_of };
+// Reads subnets.
+pub(crate) struct SubnetReader;
+
+impl EntryReader for SubnetReader {
+    type Entry = Subnet;
+
+    ghost means = { λ _. subnet_of };
 
     #[tactic(auto, unfolding(crate::specs::Subnet::subnet_of))]
-    fn read(alloc: Global, value: &Value, at: &Place<'_>) -> Result<Subnet, SettingsFault> {
+    fn read(&self, alloc: Global, value: &Value, at: &Place<'_>) -> Result<Subnet, SettingsFault> {
         check_subnet(alloc, value, at)?;
         number_or(alloc, value, at, "id", 1, 4_294_967_294, 1)?;
         let Some(prefix) = value.get("subnet").and_then(prefix_in) else {
@@ -42,8 +49,8 @@ fn subnet_of_lists(
 ) -> Result<Subnet, SettingsFault>
     ensures { Means Memory result (subnet_with prefix class (view value.now)) }
 {
-    let pools = entries_of(alloc, value, at, "pools", 64)?;
-    let reservations = entries_of(alloc, value, at, "reservations", 4096)?;
+    let pools = entries_of(alloc, value, at, "pools", 64, &PoolReader)?;
+    let reservations = entries_of(alloc, value, at, "reservations", 4096, &ReservationReader)?;
     let options = options_of(alloc, value, at)?;
     let reservations = Reservations::own(alloc, reservations.into_vec())?;
     Ok(Subnet {
@@ -71,9 +78,9 @@ fn check_subnet(alloc: Global, value: &Value, at: &Place<'_>) -> Result<(), Sett
     check_keys(alloc, value, at, &known, &["subnet"])
 }
 
-// Reads the prefix of a subnet.
+/// Returns the prefix of a subnet, `address/length`; bits of the address after the length are cleared.
 #[tactic(auto, unfolding(crate::specs::Subnet::subnet_prefix))]
-fn prefix_in(value: &Value) -> Option<Prefix>
+pub fn prefix_in(value: &Value) -> Option<Prefix>
     ensures { result ≡ subnet_prefix (view value.now) }
 {
     prefix_of(value.as_str()?.as_bytes())

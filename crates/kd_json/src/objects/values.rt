@@ -69,9 +69,9 @@ fn missing_key<'a>(value: &Value, required: &[&'a str]) -> Option<&'a str>
     None
 }
 
-// Returns a whole number in the range from `least` to `most`.
+/// Returns a whole number in the range from `least` to `most`.
 #[tactic(auto, unfolding(crate::specs::Values::number_within))]
-pub(crate) fn number_in(value: &Value, least: u32, most: u32) -> Option<u32>
+pub fn number_in(value: &Value, least: u32, most: u32) -> Option<u32>
     ensures spelled { result ≡ number_within least most (view value.now) }
     ensures within { IfSome result (λ number. number ≤ most) }
 {
@@ -83,17 +83,21 @@ pub(crate) fn number_in(value: &Value, least: u32, most: u32) -> Option<u32>
     }
 }
 
-// Returns an IPv4 address.
+/// Returns an IPv4 address in host order, from its text.
 #[tactic(auto, unfolding(crate::specs::Values::address_given))]
-pub(crate) fn address_in(value: &Value) -> Option<u32>
+pub fn address_in(value: &Value) -> Option<u32>
     ensures { result ≡ address_given (view value.now) }
 {
     address_of(value.as_str()?.as_bytes())
 }
 
-// Returns the bytes of a hexadecimal text, from `least` to `most` of them.
+/// Returns the bytes of a hexadecimal text, from `least` to `most` of them.
+///
+/// # Errors
+///
+/// `BadValue` with the path of this place for another value.
 #[tactic(auto, unfolding(crate::specs::Values::hex_bytes_in))]
-pub(crate) fn bytes_at(
+pub fn bytes_at(
     alloc: Global,
     value: &Value,
     at: &Place<'_>,
@@ -132,8 +136,12 @@ pub(crate) fn bytes_or_none(
     }
 }
 
-// Returns the text of the value at a key, if the key is present.
-pub(crate) fn text_or_none(
+/// Returns the text of the value at a key, if the key is present.
+///
+/// # Errors
+///
+/// `BadValue` with the key's path if the value is no text.
+pub fn text_or_none(
     alloc: Global,
     object: &Value,
     at: &Place<'_>,
@@ -150,15 +158,23 @@ pub(crate) fn text_or_none(
     }
 }
 
-// Copies bytes.
-pub(crate) fn own_bytes(alloc: Global, bytes: &[u8]) -> Result<Bytes, AllocError>
+/// Copies bytes.
+///
+/// # Errors
+///
+/// Out of memory.
+pub fn own_bytes(alloc: Global, bytes: &[u8]) -> Result<Bytes, AllocError>
     ensures { IfOk result (λ copy. copy ≡ bytes.now) }
 {
     Ok(Bytes::own(Vec::from_slice(alloc, bytes)?))
 }
 
-// Returns a whole number in a range at a key, or a default if the key is absent.
-pub(crate) fn number_or(
+/// Returns a whole number in a range at a key, or a default if the key is absent.
+///
+/// # Errors
+///
+/// `BadValue` with the key's path for another value.
+pub fn number_or(
     alloc: Global,
     object: &Value,
     at: &Place<'_>,

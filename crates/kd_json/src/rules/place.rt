@@ -9,40 +9,43 @@ use crate::objects::faults::SettingsFault;
 use kd_names::put_signs;
 use std::alloc::{AllocError, Global};
 
-// The place of a value in a configuration.
+/// The place of a value in a configuration.
 #[derive(Clone, Copy)]
-pub(crate) enum Place<'a> {
+pub enum Place<'a> {
+    /// The whole text.
     Root,
+    /// The value at a key of the object at a place.
     Key(&'a Place<'a>, &'static str),
+    /// The value at an index of the list at a place.
     Item(&'a Place<'a>, usize),
 }
 
-// Returns the fault of a key that is missing in the object at a place.
-pub(crate) fn missing(alloc: Global, at: &Place<'_>, key: &str) -> SettingsFault {
+/// Returns the fault of a key that is missing in the object at a place.
+pub fn missing(alloc: Global, at: &Place<'_>, key: &str) -> SettingsFault {
     match path_of_key(alloc, at, key) {
         Ok(path) => SettingsFault::Missing(path),
         Err(_) => SettingsFault::Memory,
     }
 }
 
-// Returns the fault of an unknown key in the object at a place.
-pub(crate) fn unknown(alloc: Global, at: &Place<'_>, key: &str) -> SettingsFault {
+/// Returns the fault of an unknown key in the object at a place.
+pub fn unknown(alloc: Global, at: &Place<'_>, key: &str) -> SettingsFault {
     match path_of_unknown(alloc, at, key) {
         Ok(path) => SettingsFault::Unknown(path),
         Err(_) => SettingsFault::Memory,
     }
 }
 
-// Returns the fault of a bad value at a key of the object at a place.
-pub(crate) fn bad_value(alloc: Global, at: &Place<'_>, key: &str) -> SettingsFault {
+/// Returns the fault of a bad value at a key of the object at a place.
+pub fn bad_value(alloc: Global, at: &Place<'_>, key: &str) -> SettingsFault {
     match path_of_key(alloc, at, key) {
         Ok(path) => SettingsFault::BadValue(path),
         Err(_) => SettingsFault::Memory,
     }
 }
 
-// Returns the fault of a bad value at a place.
-pub(crate) fn bad_place(alloc: Global, at: &Place<'_>) -> SettingsFault {
+/// Returns the fault of a bad value at a place.
+pub fn bad_place(alloc: Global, at: &Place<'_>) -> SettingsFault {
     match path_of(alloc, at) {
         Ok(path) => SettingsFault::BadValue(path),
         Err(_) => SettingsFault::Memory,

@@ -9,7 +9,7 @@ loop-i-preserved g c =
     let this = c.index-values-i in
     let made = c.in_ok-entry in
     rw c.in_ok-push.ensures.items
-    (at.invariant ∙ entry_read g.T.Entry.means c.args.values.now at.i this.result at.list.items
+    (at.invariant ∙ entry_read (g.R.EntryReader.means c.args.reader.now) c.args.values.now at.i this.result at.list.items
     made.entry (omega arith) this.is made.ensures)
 
 pub returns-in_err-entry : goal.returns-in_err-entry
@@ -18,5 +18,5 @@ returns-in_err-entry g c =
     let this = c.index-values-i in
     let p = err_from_is_err_and c.from_residual.result c.from_residual.ensures.1 in
     rw (p.1, p.2)
-    (λ other. at.invariant ∙ entry_refused g.T.Entry.means c.args.values.now at.i this.result
+    (λ other. at.invariant ∙ entry_refused (g.R.EntryReader.means c.args.reader.now) c.args.values.now at.i this.result
     at.list.items (omega arith) this.is (c.in_err-entry.ensures other))

@@ -5,4 +5,7 @@ use Rattle.kd_json.specs.Lists.{all_of}
 use Rattle.kd_json.proofs.objects.lists.entries_in.Given as goal
 
 abbrev pub invariant-loop-i : goal.invariant-loop-i
-invariant-loop-i g l = all_of g.T.Entry.means (items_view l.values) ≡ option_and_then (λ xs. Some (l.list.items ++ xs)) (all_of g.T.Entry.means (items_view (drop l.i l.values)))
+invariant-loop-i g l =
+    let means = g.R.EntryReader.means l.reader in
+    all_of means (items_view l.values)
+    ≡ option_and_then (λ xs. Some (l.list.items ++ xs)) (all_of means (items_view (drop l.i l.values)))

@@ -1,0 +1,12 @@
+pub mod Spans
+pub mod Ends
+pub mod Cuts
+pub mod Written
+pub mod Includes
+pub mod Blanked
+pub mod Already
+pub mod Rows
+pub mod Tests
+pub mod Sounds
+pub mod SoundKea
+pub mod Whole

@@ -1,0 +1,126 @@
+-- What a text of Kea's describes obeys what all settings obey, object by object.
+use Rattle.std.proofs.Common.{◌≡◌, ℕ, true, false, List, codes, Option, Some, subst}
+use Rattle.std.specs.Prelude.{option_and_then}
+use Rattle.kd_config.proofs.Tests.{some_is}
+use Rattle.kd_config.specs.Sound.{IsIdentity, IsPool, IsSubnet}
+use Rattle.kd_config.specs.declared.pool.Pool.{Pool}
+use Rattle.kd_config.specs.declared.reservation.Reservation.{Reservation}
+use Rattle.kd_config.specs.declared.subnet.Subnet.{Subnet}
+use Rattle.kd_json.proofs.Came.{came_from, each_meant, few_meant, passed}
+use Rattle.kd_json.proofs.SoundSettings.{given_sound, name_sound, prefix_in_sound, range_in_sound}
+use Rattle.kd_json.specs.Class.{class_name_in}
+use Rattle.kd_json.specs.Document.{value_spelled}
+use Rattle.kd_json.specs.Lists.{list_of}
+use Rattle.kd_json.specs.Pool.{pool_range}
+use Rattle.kd_json.specs.Reservation.{identity_given}
+use Rattle.kd_json.specs.Sound.{AreSettings, IsEntry}
+use Rattle.kd_json.specs.Subnet.{subnet_prefix}
+use Rattle.kd_json.specs.Values.{address_given, text_if_given}
+use Rattle.kd_json.specs.declared.objects.class.ClassEntry.{ClassEntry}
+use Rattle.kd_json.specs.declared.objects.settings.Settings.{Settings}
+use Rattle.kd_kea.proofs.Sounds.{all_sound, options_sound, server_sound, times_sound}
+use Rattle.kd_kea.specs.Class.{kea_class}
+use Rattle.kd_kea.specs.Kea.{kea_settings}
+use Rattle.kd_kea.specs.Keys.{keys_are_read}
+use Rattle.kd_kea.specs.Options.{kea_options, server_address}
+use Rattle.kd_kea.specs.Plain.{plain}
+use Rattle.kd_kea.specs.Pool.{kea_pool}
+use Rattle.kd_kea.specs.Reservation.{kea_reservation}
+use Rattle.kd_kea.specs.Settings.{has_server_form, kea_dhcp4, kea_root, kea_settings_with}
+use Rattle.kd_kea.specs.Subnet.{has_subnet_form, is_at_server, kea_subnet, kea_subnet_with}
+use Rattle.kd_kea.specs.Tables.{class_keys, host_keys, pool_keys, root_keys}
+use Rattle.kd_kea.specs.Times.{has_usual_shares, kea_times}
+use Rattle.kd_kea.specs.Values.{flag_given, is_whole_if_given}
+use Rattle.kd_kea.specs.declared.objects.subnet.Above.{Above}
+use Rattle.kd_wire.specs.Steps.{◌>>=◌}
+use Rattle.serde_json.specs.Data.{Data}
+use Rattle.serde_json.specs.Find.{get}
+
+pool_sound : (d : Data) (pool : Pool) → kea_pool d ≡ Some pool → IsPool pool
+unfolding kea_pool
+pool_sound d pool e =
+    let keys = passed (keys_are_read pool_keys d) _ pool e in
+    let range = came_from (option_and_then pool_range (get (codes "pool") d)) _ pool keys.1 in
+    let options = came_from (kea_options false (get (codes "option-data") d)) _ pool range.gives in
+    let value = came_from (get (codes "pool") d) pool_range range.first range.is in
+    subst IsPool (some_is _ pool options.gives) (record {
+      range = range_in_sound value.first range.first value.gives;
+      options = options_sound (get (codes "option-data") d) options.first options.is;
+    })
+
+reservation_sound : (d : Data) (reservation : Reservation) → kea_reservation d ≡ Some reservation → IsIdentity reservation.identity
+unfolding kea_reservation
+reservation_sound d reservation e =
+    let keys = passed (keys_are_read host_keys d) _ reservation e in
+    let hardware = passed (is_whole_if_given (get (codes "hw-address") d)) _ reservation keys.1 in
+    let client = passed (is_whole_if_given (get (codes "client-id") d)) _ reservation hardware.1 in
+    let identity = came_from (identity_given d) _ reservation client.1 in
+    let address = came_from (option_and_then address_given (get (codes "ip-address") d)) _ reservation identity.gives in
+    subst (λ (r : Reservation). IsIdentity r.identity) (some_is _ reservation address.gives) (given_sound d identity.first identity.is)
+
+subnet_sound : (above : Above) (d : Data) (subnet : Subnet) → kea_subnet above d ≡ Some subnet → IsSubnet subnet
+unfolding kea_subnet kea_subnet_with
+subnet_sound above d subnet e =
+    let form = came_from (has_subnet_form above d) _ subnet e in
+    let prefix = came_from (option_and_then subnet_prefix (get (codes "subnet") d)) _ subnet form.gives in
+    let here = passed (is_at_server above.server prefix.first (get (codes "interface") d)) _ subnet prefix.gives in
+    let class = came_from (text_if_given (get (codes "client-class") d)) _ subnet here.1 in
+    let pools = came_from (list_of 64 kea_pool (get (codes "pools") d)) _ subnet class.gives in
+    let reservations = came_from (list_of 4096 kea_reservation (get (codes "reservations") d)) _ subnet pools.gives in
+    let options = came_from (kea_options false (get (codes "option-data") d)) _ subnet reservations.gives in
+    let value = came_from (get (codes "subnet") d) subnet_prefix prefix.first prefix.is in
+    subst IsSubnet (some_is _ subnet options.gives) (record {
+      prefix = prefix_in_sound value.first prefix.first value.gives;
+      few_pools = few_meant 64 kea_pool (get (codes "pools") d) pools.first pools.is;
+      pools = each_meant IsPool kea_pool pool_sound 64 (get (codes "pools") d) pools.first pools.is;
+      few_reservations = few_meant 4096 kea_reservation (get (codes "reservations") d) reservations.first reservations.is;
+      reservations = each_meant (λ (r : Reservation). IsIdentity r.identity) kea_reservation reservation_sound 4096 (get (codes "reservations") d) reservations.first reservations.is;
+      options = options_sound (get (codes "option-data") d) options.first options.is;
+    })
+
+entry_sound : (d : Data) (entry : ClassEntry) → kea_class d ≡ Some entry → IsEntry entry
+unfolding kea_class
+entry_sound d entry e =
+    let keys = passed (keys_are_read class_keys d) _ entry e in
+    let name = came_from (option_and_then class_name_in (get (codes "name") d)) _ entry keys.1 in
+    let text = came_from (text_if_given (get (codes "test") d)) _ entry name.gives in
+    let options = came_from (kea_options false (get (codes "option-data") d)) _ entry text.gives in
+    let value = came_from (get (codes "name") d) class_name_in name.first name.is in
+    subst IsEntry (some_is _ entry options.gives) (record {
+      name = name_sound value.first name.first value.gives;
+      options = options_sound (get (codes "option-data") d) options.first options.is;
+    })
+
+dhcp4_sound : (server : Option ℕ) (d : Data) (s : Settings) → kea_dhcp4 server d ≡ Some s → AreSettings s
+unfolding kea_dhcp4 kea_settings_with
+dhcp4_sound server d s e =
+    let form = came_from (has_server_form d) _ s e in
+    let calculated = came_from (flag_given (get (codes "calculate-tee-times") d)) _ s form.gives in
+    let shares = passed (has_usual_shares calculated.first d) _ s calculated.gives in
+    let times = came_from (kea_times calculated.first d) _ s shares.1 in
+    let options = came_from (kea_options true (get (codes "option-data") d)) _ s times.gives in
+    let address = came_from (server_address options.first server) _ s options.gives in
+    let above : Above = record { server = address.first; times = times.first; calculated = calculated.first } in
+    let classes = came_from (list_of 256 kea_class (get (codes "client-classes") d)) _ s address.gives in
+    let subnets = came_from (list_of 256 (kea_subnet above) (get (codes "subnet4") d)) _ s classes.gives in
+    subst AreSettings (some_is _ s subnets.gives) (record {
+      server = server_sound options.first server address.first address.is;
+      times = times_sound calculated.first d times.first times.is;
+      options = all_sound (get (codes "option-data") d) options.first options.is;
+      classes = each_meant IsEntry kea_class entry_sound 256 (get (codes "client-classes") d) classes.first classes.is;
+      few = few_meant 256 (kea_subnet above) (get (codes "subnet4") d) subnets.first subnets.is;
+      subnets = each_meant IsSubnet (kea_subnet above) (subnet_sound above) 256 (get (codes "subnet4") d) subnets.first subnets.is;
+    })
+
+root_sound : (server : Option ℕ) (d : Data) (s : Settings) → kea_root server d ≡ Some s → AreSettings s
+unfolding kea_root
+root_sound server d s e =
+    let keys = passed (keys_are_read root_keys d) _ s e in
+    let dhcp4 = came_from (get (codes "Dhcp4") d) (kea_dhcp4 server) s keys.1 in
+    dhcp4_sound server dhcp4.first s dhcp4.gives
+
+pub kea_sound : (text : List ℕ) (server : Option ℕ) (s : Settings) → kea_settings text server ≡ Some s → AreSettings s
+unfolding kea_settings
+kea_sound text server s e =
+    let value = came_from (plain text >>= value_spelled) (kea_root server) s e in
+    root_sound server value.first s value.gives

@@ -1,0 +1,16 @@
+pub mod Plain
+pub mod PlainLaws
+pub mod Output
+pub mod Keys
+pub mod Tables
+pub mod Values
+pub mod OptionValue
+pub mod Options
+pub mod Times
+pub mod Class
+pub mod Pool
+pub mod Reservation
+pub mod Subnet
+pub mod Settings
+pub mod Kea
+pub mod Rows

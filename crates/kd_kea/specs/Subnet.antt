@@ -1,0 +1,59 @@
+-- A subnet in a configuration of Kea's: a prefix, its class, pools, reservations and options.
+use Rattle.std.specs.Prelude.{ℕ, Bool, true, false, ◌||◌, List, [], codes, Option, Some, None}
+use Rattle.serde_json.specs.Data.{Data, string}
+use Rattle.serde_json.specs.Find.{get}
+use Rattle.kd_config.specs.Address.{has_address}
+use Rattle.kd_config.specs.declared.prefix.Prefix.{Prefix}
+use Rattle.kd_config.specs.declared.subnet.Subnet.{Subnet}
+use Rattle.kd_json.specs.Lists.{list_of}
+use Rattle.kd_json.specs.Steps.{must}
+use Rattle.kd_json.specs.Subnet.{subnet_prefix}
+use Rattle.kd_json.specs.Values.{number_if_given, text_if_given}
+use Rattle.kd_kea.specs.Keys.{is_plain, keys_are_read, word}
+use Rattle.kd_kea.specs.Options.{kea_options}
+use Rattle.kd_kea.specs.Pool.{kea_pool}
+use Rattle.kd_kea.specs.Reservation.{kea_reservation}
+use Rattle.kd_kea.specs.Tables.{relay_keys, subnet_keys}
+use Rattle.kd_kea.specs.Times.{repeats_times}
+use Rattle.kd_kea.specs.Values.{unless_empty}
+use Rattle.kd_kea.specs.declared.objects.subnet.Above.{Above}
+use Rattle.kd_wire.specs.Steps.{◌>>=◌}
+
+-- a subnet's relay, if it is given, names no address
+abbrev pub names_no_relay : Option Data → Bool
+names_no_relay None = true
+names_no_relay (Some d) = keys_are_read relay_keys d
+
+-- a subnet's interface, if it is given, is the one with the server's address: a text that is empty,
+-- or any text if the address is in the subnet's prefix
+abbrev pub is_at_server : ℕ → Prefix → Option Data → Bool
+is_at_server server prefix None = true
+is_at_server server prefix (Some (string text)) =
+    is_plain (word []) (string text) || has_address prefix server
+is_at_server server prefix (Some d) = false
+
+-- the subnet of a prefix and a class with the lists in a value
+unfoldable pub kea_subnet_with : Prefix → Option (List ℕ) → Data → Option Subnet
+kea_subnet_with prefix class d = do
+  pools ← list_of 64 kea_pool (get (codes "pools") d)
+  reservations ← list_of 4096 kea_reservation (get (codes "reservations") d)
+  options ← kea_options false (get (codes "option-data") d)
+  Some (record { prefix = prefix; class = class; pools = pools; reservations = reservations; options = options })
+
+-- a value has the keys of a subnet; its `id` is checked but not used
+unfoldable pub has_subnet_form : Above → Data → Option (Unit {0})
+has_subnet_form above d = do
+  _ ← must (keys_are_read subnet_keys d)
+  _ ← repeats_times above.calculated above.times d
+  _ ← must (names_no_relay (get (codes "relay") d))
+  _ ← number_if_given 1 4294967294 1 (get (codes "id") d)
+  Some tt
+
+-- the subnet that a value describes, below what holds for the whole server; an empty class is none
+unfoldable pub kea_subnet : Above → Data → Option Subnet
+kea_subnet above d = do
+  _ ← has_subnet_form above d
+  prefix ← get (codes "subnet") d >>= subnet_prefix
+  _ ← must (is_at_server above.server prefix (get (codes "interface") d))
+  class ← text_if_given (get (codes "client-class") d)
+  kea_subnet_with prefix (unless_empty class) d

@@ -1,0 +1,60 @@
+ghost use Rattle.serde_json.specs.Find.{get};
+ghost use Rattle.serde_json.specs.View.{view};
+ghost use Rattle.kd_json.specs.Gives.{Means};
+ghost use Rattle.kd_json.specs.Steps.{must};
+ghost use Rattle.kd_json.specs.declared.objects.faults.SettingsFault.TheVariants.{Memory};
+ghost use Rattle.kd_kea.specs.Rows.{plain_of};
+ghost use Rattle.kd_kea.specs.Values.{flag_given, is_plain_if_given, unless_empty};
+ghost use Rattle.std.specs.Prelude.{◌≡◌};
+
+use crate::keys::{UsualValue, is_usual};
+use kd_json::objects::faults::SettingsFault;
+use kd_json::rules::place::{Place, bad_value, unknown};
+use kd_wire::Bytes;
+use serde_json::Value;
+use std::alloc::Global;
+
+// Checks that a key is absent, or has its usual value.
+pub(crate) fn check_usual(
+    alloc: Global,
+    object: &Value,
+    at: &Place<'_>,
+    key: &'static str,
+    usual: UsualValue,
+) -> Result<(), SettingsFault>
+    ensures { Means Memory result
+        (must (is_plain_if_given (plain_of usual) (get key.now (view object.now)))) }
+{
+    match object.get(key) {
+        Some(value) if !is_usual(usual, value) => Err(unknown(alloc, at, key)),
+        _ => Ok(()),
+    }
+}
+
+// Returns the truth value at a key; an absent one is false.
+pub(crate) fn flag_at(
+    alloc: Global,
+    object: &Value,
+    at: &Place<'_>,
+    key: &'static str,
+) -> Result<bool, SettingsFault>
+    ensures { Means Memory result (flag_given (get key.now (view object.now))) }
+{
+    match object.get(key) {
+        Some(value) => match value.as_bool() {
+            Some(flag) => Ok(flag),
+            None => Err(bad_value(alloc, at, key)),
+        },
+        None => Ok(false),
+    }
+}
+
+// Returns a text, unless it is empty.
+pub(crate) fn non_empty(text: Option<Bytes>) -> Option<Bytes>
+    ensures { result ≡ unless_empty text }
+{
+    match text {
+        Some(text) if text.as_slice().is_empty() => None,
+        other => other,
+    }
+}

@@ -1,0 +1,186 @@
+ghost use Rattle.std.specs.Prelude.{◌≡◌, codes};
+ghost use Rattle.serde_json.specs.Find.{get};
+ghost use Rattle.serde_json.specs.View.{items_view, view};
+ghost use Rattle.kd_json.specs.Gives.{Means};
+ghost use Rattle.kd_json.specs.Steps.{must};
+ghost use Rattle.kd_json.specs.declared.objects.faults.SettingsFault.TheVariants.{Memory};
+ghost use Rattle.kd_kea.specs.Keys.{word};
+ghost use Rattle.kd_kea.specs.Options.{server_address};
+ghost use Rattle.kd_kea.specs.Rows.{plain_of};
+ghost use Rattle.kd_kea.specs.Values.{has_plain};
+ghost use Rattle.kd_kea.specs.Settings.{finds_reservations, has_server_form, kea_dhcp4, kea_root, kea_settings_with, turns_nothing_on};
+
+use crate::checking::check_keys;
+use crate::keys::{UsualValue, is_usual};
+use crate::objects::class::ClassReader;
+use crate::objects::flags::{check_usual, flag_at};
+use crate::objects::options::{address_among, options_of, without_server};
+use crate::objects::subnet::{Above, SubnetReader};
+use crate::objects::times::{check_shares, times_of};
+use crate::tables::ObjectKind;
+use kd_classes::{OptionData, OptionList};
+use kd_json::objects::faults::SettingsFault;
+use kd_json::objects::lists::entries_of;
+use kd_json::objects::settings::Settings;
+use kd_json::rules::place::{Place, bad_value, missing, unknown};
+use serde_json::Value;
+use std::alloc::Global;
+
+// Reads the settings that the JSON value of a whole text describes.
+#[tactic(auto, unfolding(crate::specs::Settings::kea_root))]
+pub(crate) fn root_of(
+    alloc: Global,
+    value: &Value,
+    server: Option<u32>,
+) -> Result<Settings, SettingsFault>
+    ensures { Means Memory result (kea_root server (view value.now)) }
+{
+    let root = Place::Root;
+    check_keys(alloc, value, &root, ObjectKind::Whole)?;
+    match value.get("Dhcp4") {
+        Some(dhcp4) => settings_of(alloc, dhcp4, &Place::Key(&root, "Dhcp4"), server),
+        None => Err(missing(alloc, &root, "Dhcp4")),
+    }
+}
+
+// Reads the settings that the value of `Dhcp4` describes.
+#[tactic(auto, unfolding(crate::specs::Settings::kea_dhcp4))]
+fn settings_of(
+    alloc: Global,
+    value: &Value,
+    at: &Place<'_>,
+    server: Option<u32>,
+) -> Result<Settings, SettingsFault>
+    ensures { Means Memory result (kea_dhcp4 server (view value.now)) }
+{
+    check_form(alloc, value, at)?;
+    let calculated = flag_at(alloc, value, at, "calculate-tee-times")?;
+    check_shares(alloc, value, at, calculated)?;
+    let times = times_of(alloc, value, at, calculated)?;
+    let options = options_of(alloc, value, at, true)?;
+    let server = address_of(alloc, options.as_slice(), at, server)?;
+    let above = Above {
+        server,
+        times,
+        calculated,
+    };
+    settings_of_lists(alloc, value, at, options, above)
+}
+
+// Returns the server's address, by the options of the whole server.
+fn address_of(
+    alloc: Global,
+    options: &[OptionData],
+    at: &Place<'_>,
+    server: Option<u32>,
+) -> Result<u32, SettingsFault>
+    ensures { Means Memory result (server_address options.now server) }
+{
+    match address_among(options, server) {
+        Some(address) => Ok(address),
+        None => {
+            let list = Place::Key(&*at, "option-data");
+            Err(missing(alloc, &list, "dhcp-server-identifier"))
+        }
+    }
+}
+
+// Builds the settings of options and what holds for the whole server, with the lists in the value
+// of `Dhcp4`.
+#[tactic(auto, unfolding(crate::specs::Settings::kea_settings_with))]
+fn settings_of_lists(
+    alloc: Global,
+    value: &Value,
+    at: &Place<'_>,
+    options: OptionList,
+    above: Above,
+) -> Result<Settings, SettingsFault>
+    ensures { Means Memory result (kea_settings_with options above (view value.now)) }
+{
+    let reader = SubnetReader { above };
+    let classes = entries_of(alloc, value, at, "client-classes", 256, &ClassReader)?;
+    let subnets = entries_of(alloc, value, at, "subnet4", 256, &reader)?;
+    let options = without_server(alloc, options)?;
+    Ok(Settings {
+        server: above.server,
+        times: above.times,
+        options,
+        classes,
+        subnets,
+    })
+}
+
+// Checks that the value has the keys of `Dhcp4`, and that nothing in it is kept in another place.
+#[tactic(auto, unfolding(crate::specs::Settings::has_server_form))]
+fn check_form(alloc: Global, value: &Value, at: &Place<'_>) -> Result<(), SettingsFault>
+    ensures { Means Memory result (has_server_form (view value.now)) }
+{
+    check_keys(alloc, value, at, ObjectKind::Server)?;
+    check_off(
+        alloc,
+        value,
+        at,
+        "dhcp-ddns",
+        "enable-updates",
+        UsualValue::Flag(false),
+    )?;
+    check_off(
+        alloc,
+        value,
+        at,
+        "config-control",
+        "config-databases",
+        UsualValue::EmptyList,
+    )?;
+    check_identifiers(alloc, value, at)
+}
+
+// Checks that an object, if it is given, turns nothing on: one key of it is absent, or has its
+// usual value.
+fn check_off(
+    alloc: Global,
+    dhcp4: &Value,
+    at: &Place<'_>,
+    name: &'static str,
+    key: &'static str,
+    usual: UsualValue,
+) -> Result<(), SettingsFault>
+    ensures { Means Memory result
+        (must (turns_nothing_on key.now (plain_of usual) (get name.now (view dhcp4.now)))) }
+{
+    let Some(object) = dhcp4.get(name) else {
+        return Ok(());
+    };
+    if object.as_object().is_none() {
+        return Err(bad_value(alloc, at, name));
+    }
+    check_usual(alloc, object, &Place::Key(&*at, name), key, usual)
+}
+
+// Checks that reservations are looked for by hardware address and by identifier.
+fn check_identifiers(alloc: Global, dhcp4: &Value, at: &Place<'_>) -> Result<(), SettingsFault>
+    ensures { Means Memory result
+        (must (finds_reservations
+        (get (codes "host-reservation-identifiers") (view dhcp4.now)))) }
+{
+    let key = "host-reservation-identifiers";
+    let Some(value) = dhcp4.get(key) else {
+        return Ok(());
+    };
+    match value.as_array() {
+        Some(names) if has_text(names, "hw-address") && has_text(names, "client-id") => Ok(()),
+        _ => Err(unknown(alloc, at, key)),
+    }
+}
+
+// Reports whether one of these values is this text.
+fn has_text(values: &[Value], text: &'static str) -> bool
+    ensures { result ≡ has_plain (word text.now) (items_view values.now) }
+{
+    for value in values {
+        if is_usual(UsualValue::Text(text), value) {
+            return true;
+        }
+    }
+    false
+}

@@ -1,0 +1,133 @@
+ghost use Rattle.std.specs.Prelude.{◌≡◌};
+ghost use Rattle.serde_json.specs.Find.{get};
+ghost use Rattle.serde_json.specs.View.{view};
+ghost use Rattle.std.specs.Prelude.{codes};
+ghost use Rattle.kd_json.specs.Gives.{Means};
+ghost use Rattle.kd_json.specs.Steps.{must};
+ghost use Rattle.kd_json.specs.declared.objects.faults.SettingsFault.TheVariants.{Memory};
+ghost use Rattle.kd_kea.specs.Subnet.{has_subnet_form, is_at_server, kea_subnet, kea_subnet_with, names_no_relay};
+
+use crate::checking::check_keys;
+use crate::objects::flags::non_empty;
+use crate::objects::options::options_of;
+use crate::objects::pool::PoolReader;
+use crate::objects::reservation::ReservationReader;
+use crate::objects::times::check_times;
+use crate::tables::ObjectKind;
+use kd_config::{Prefix, Reservations, Subnet, Times};
+use kd_json::objects::faults::SettingsFault;
+use kd_json::objects::lists::{EntryReader, entries_of};
+use kd_json::objects::subnet::prefix_in;
+use kd_json::objects::values::{number_or, text_or_none};
+use kd_json::rules::place::{Place, bad_value, missing, unknown};
+use kd_wire::Bytes;
+use serde_json::Value;
+use std::alloc::Global;
+
+// What holds for the whole server, above its subnets.
+#[derive(Clone, Copy)]
+pub(crate) struct Above {
+    // The server's address.
+    pub(crate) server: u32,
+    // The lease and offer times.
+    pub(crate) times: Times,
+    // T1 and T2 are calculated with Kea's rounding.
+    pub(crate) calculated: bool,
+}
+
+// Reads subnets.
+#[derive(Clone, Copy)]
+pub(crate) struct SubnetReader {
+    pub(crate) above: Above,
+}
+
+impl EntryReader for SubnetReader {
+    type Entry = Subnet;
+
+    ghost means = { λ reader. kea_subnet reader.above };
+
+    #[tactic(auto, unfolding(crate::specs::Subnet::kea_subnet))]
+    fn read(&self, alloc: Global, value: &Value, at: &Place<'_>) -> Result<Subnet, SettingsFault> {
+        check_form(alloc, value, at, self.above)?;
+        let Some(text) = value.get("subnet") else {
+            return Err(missing(alloc, at, "subnet"));
+        };
+        let Some(prefix) = prefix_in(text) else {
+            return Err(bad_value(alloc, at, "subnet"));
+        };
+        check_interface(alloc, value, at, self.above.server, prefix)?;
+        let class = text_or_none(alloc, value, at, "client-class")?;
+        subnet_of_lists(alloc, value, at, prefix, non_empty(class))
+    }
+}
+
+// Checks that the value has the keys of a subnet, with values that change nothing for it.
+#[tactic(auto, unfolding(crate::specs::Subnet::has_subnet_form))]
+fn check_form(
+    alloc: Global,
+    value: &Value,
+    at: &Place<'_>,
+    above: Above,
+) -> Result<(), SettingsFault>
+    ensures { Means Memory result (has_subnet_form above (view value.now)) }
+{
+    check_keys(alloc, value, at, ObjectKind::Subnet)?;
+    check_times(alloc, value, at, above.calculated, above.times)?;
+    check_no_relay(alloc, value, at)?;
+    number_or(alloc, value, at, "id", 1, 4_294_967_294, 1)?;
+    Ok(())
+}
+
+// Checks that a subnet names no address of a relay.
+fn check_no_relay(alloc: Global, subnet: &Value, at: &Place<'_>) -> Result<(), SettingsFault>
+    ensures { Means Memory result (must (names_no_relay (get (codes "relay") (view subnet.now)))) }
+{
+    match subnet.get("relay") {
+        Some(relay) => check_keys(alloc, relay, &Place::Key(&*at, "relay"), ObjectKind::Relay),
+        None => Ok(()),
+    }
+}
+
+// Checks that a subnet's interface is the one with the server's address.
+fn check_interface(
+    alloc: Global,
+    subnet: &Value,
+    at: &Place<'_>,
+    server: u32,
+    prefix: Prefix,
+) -> Result<(), SettingsFault>
+    ensures { Means Memory result
+        (must (is_at_server server prefix (get (codes "interface") (view subnet.now)))) }
+{
+    let Some(value) = subnet.get("interface") else {
+        return Ok(());
+    };
+    match value.as_str() {
+        Some(name) if name.is_empty() || prefix.contains(server) => Ok(()),
+        _ => Err(unknown(alloc, at, "interface")),
+    }
+}
+
+// Builds the subnet of a prefix and a class with the lists in a value.
+#[tactic(auto, unfolding(crate::specs::Subnet::kea_subnet_with))]
+fn subnet_of_lists(
+    alloc: Global,
+    value: &Value,
+    at: &Place<'_>,
+    prefix: Prefix,
+    class: Option<Bytes>,
+) -> Result<Subnet, SettingsFault>
+    ensures { Means Memory result (kea_subnet_with prefix class (view value.now)) }
+{
+    let pools = entries_of(alloc, value, at, "pools", 64, &PoolReader)?;
+    let reservations = entries_of(alloc, value, at, "reservations", 4096, &ReservationReader)?;
+    let options = options_of(alloc, value, at, false)?;
+    let reservations = Reservations::own(alloc, reservations.into_vec())?;
+    Ok(Subnet {
+        prefix,
+        class,
+        pools,
+        reservations,
+        options,
+    })
+}

@@ -1,0 +1,39 @@
+//! The text of a configuration as plain JSON (`specs/Plain.antt`).
+ghost use Rattle.std.specs.Prelude.{◌≡◌, IfOk, option_map};
+ghost use Rattle.kd_kea.specs.Plain.{plain};
+
+mod ends;
+pub(crate) mod include;
+pub mod laws;
+mod output;
+mod space;
+mod span;
+
+use crate::plain::output::Output;
+use crate::plain::span::{TextSpan, cut_span};
+use std::alloc::{AllocError, Global};
+
+/// Returns the JSON text that a text stands for, with each other byte in its place. Kea allows two
+/// things that JSON does not: comments (from `#` or `//` to the end of the line, and `/* .. */`),
+/// and a comma before a closing bracket. Both become spaces; line feeds stay. Strings stay as they
+/// are. Returns `None` if a `/*` has no `*/`.
+///
+/// # Errors
+///
+/// Out of memory.
+pub fn plain_text(alloc: Global, text: &[u8]) -> Result<Option<Vec<u8>>, AllocError>
+    ensures { IfOk result (λ it. option_map (λ bytes. bytes.items) it ≡ plain text.now) }
+{
+    let mut output = Output::new(alloc, text.len())?;
+    let mut rest = text;
+    while let Some((span, behind)) = cut_span(rest) {
+        match span {
+            TextSpan::Quoted(string) => output.push_string(string)?,
+            TextSpan::Comment(comment) => output.push_comment(comment)?,
+            TextSpan::Endless(_) => return Ok(None),
+            TextSpan::Single(byte) => output.push_byte(byte)?,
+        }
+        rest = behind;
+    }
+    Ok(Some(output.into_bytes()))
+}
