@@ -13,7 +13,7 @@ _kdhcp_paths() {
 
 _kdhcp() {
     local current=${COMP_WORDS[COMP_CWORD]} option=${COMP_WORDS[COMP_CWORD - 1]} command="" word
-    local files="--config --token-dir --store"
+    local files="--config --kea --server-address --token-dir --store"
     COMPREPLY=()
     # bash splits `--config=F` into three words.
     if [[ $current == = ]]; then
@@ -32,12 +32,11 @@ _kdhcp() {
         return
     fi
     case $command:$option in
-        replay:--config | replay:--store | serve:--config | serve:--store | serve:--record | leases:--config | leases:--store \
-            | pools:--config | pools:--store | why:--config | why:--store | import:--store | check:--config | check:--store)
+        *:--config | *:--kea | *:--store | serve:--record)
             _kdhcp_paths -f "$current"
             return
             ;;
-        replay:--token-dir | serve:--token-dir | leases:--token-dir | pools:--token-dir | why:--token-dir | check:--token-dir)
+        *:--token-dir)
             _kdhcp_paths -d "$current"
             return
             ;;
@@ -46,7 +45,7 @@ _kdhcp() {
         serve:--client-port) _kdhcp_words "68" "$current" && return ;;
         serve:--count) _kdhcp_words "18446744073709551615" "$current" && return ;;
         serve:--max-ahead | check:--max-ahead) _kdhcp_words "3600" "$current" && return ;;
-        serve:--broadcast-as | events:--mac | events:--address | replay:--why) return ;;
+        *:--server-address | serve:--broadcast-as | events:--mac | events:--address | replay:--why) return ;;
         leases:--at | pools:--at | why:--at) _kdhcp_words "$(date +%s)" "$current" && return ;;
     esac
     case $command in

@@ -10,4 +10,5 @@ pub mod Lines
 pub mod Options
 pub mod Rules
 pub mod Spelled
+pub mod Tables
 pub mod Top

@@ -1,7 +1,7 @@
 -- The orders of the command line: the table of its subcommands and their parameters, the command
 -- line that the crate `clap` reads by it, which arguments give which order over what `clap` makes of
 -- them, and the numbers of the faults.
-use Rattle.std.specs.Prelude.{◌≡◌, ◌≢◌, ◌⊎◌, ◌+◌, ◌*◌, ◌^◌, ◌||◌, ◌++◌, ℕ, Bool, true, false, not, List, [], ◌∷◌, fold, map}
+use Rattle.std.specs.Prelude.{◌≡◌, ◌≢◌, ◌⊎◌, ◌+◌, ◌*◌, ◌==◌, ◌^◌, ◌||◌, ◌++◌, ℕ, Bool, true, false, not, List, [], ◌∷◌, fold, map}
 use Rattle.std.specs.Prelude.{Option, Some, None, is_some, Result, Ok, Err, codes, option_and_then, option_map, if◌then◌else◌}
 use Rattle.std.specs.Option.{option_map_or}
 use Rattle.std.specs.Str.{bytes_eq}
@@ -15,8 +15,10 @@ use Rattle.clap.specs.declared.error.kind.ErrorKind.TheVariants.{DisplayHelp, Di
 use Rattle.kd_commands.specs.declared.fault.LineFault.{LineFault}
 use Rattle.kd_commands.specs.declared.fault.LineFault.TheVariants.{CommandLine, Memory}
 use Rattle.kd_wire.specs.Steps.{◌>>=◌}
-use Rattle.kd_commands.specs.Values.{address_of, event_line_of, hardware_of, number_of, port_of, read_if_given, read_or}
+use Rattle.kd_commands.specs.Values.{address_of, event_line_of, hardware_of, host_address_of, number_of, port_of, read_if_given, read_or}
 use Rattle.kd_commands.specs.declared.orders.Files.{Files}
+use Rattle.kd_commands.specs.declared.orders.Form.{Form}
+use Rattle.kd_commands.specs.declared.orders.Form.TheVariants.{Kea, Own}
 use Rattle.kd_commands.specs.declared.orders.Listening.{Listening}
 use Rattle.kd_commands.specs.declared.orders.Place.{Place}
 use Rattle.kd_commands.specs.declared.orders.Order.{Order}
@@ -48,17 +50,18 @@ pub data Parameter : Type 0 where
 -- the parameters of a subcommand over files
 abbrev pub file_parameters : List Parameter
 file_parameters =
-    takes_value (codes "config") ∷ takes_value (codes "token-dir") ∷ takes_value (codes "store")
-    ∷ []
+    takes_value (codes "config") ∷ takes_value (codes "kea")
+    ∷ takes_value (codes "server-address") ∷ takes_value (codes "token-dir")
+    ∷ takes_value (codes "store") ∷ []
 
 -- the parameters of a subcommand that prints a view of a store at a time
 abbrev pub view_parameters : List Parameter
 view_parameters =
     file_parameters ++ takes_flag (codes "live") ∷ needs_value (codes "at") ∷ []
 
--- each subcommand by its name, with its parameters
-abbrev pub subcommand_table : List (Text × List Parameter)
-subcommand_table =
+-- the subcommands over texts of the command line, each by its name, with its parameters
+abbrev pub table_on_texts : List (Text × List Parameter)
+table_on_texts =
     (codes "show", takes_flag (codes "names") ∷ needs_text (codes "HEX") ∷ [])
     ∷ (codes "expr", needs_text (codes "TEXT") ∷ [])
     ∷ (codes "compile", needs_text (codes "TEXT") ∷ [])
@@ -68,11 +71,21 @@ subcommand_table =
       takes_flag (codes "text") ∷ needs_text (codes "PROGRAM")
           ∷ needs_text (codes "DATAGRAM") ∷ [],
     )
-    ∷ (codes "replay", file_parameters ++ takes_value (codes "why") ∷ [])
+    ∷ []
+
+-- those over a store, or over events as a server handles them
+abbrev pub table_on_leases : List (Text × List Parameter)
+table_on_leases =
+    (codes "replay", file_parameters ++ takes_value (codes "why") ∷ [])
     ∷ (codes "leases", view_parameters)
     ∷ (codes "pools", view_parameters ++ takes_flag (codes "prometheus") ∷ [])
     ∷ (codes "why", view_parameters ++ needs_text (codes "HEX") ∷ [])
-    ∷ (codes "import", needs_value (codes "store") ∷ [])
+    ∷ []
+
+-- those around a server, and the server
+abbrev pub table_around_servers : List (Text × List Parameter)
+table_around_servers =
+    (codes "import", needs_value (codes "store") ∷ [])
     ∷ (codes "events", takes_value (codes "mac") ∷ takes_value (codes "address") ∷ [])
     ∷ (
       codes "check",
@@ -87,6 +100,10 @@ subcommand_table =
           ∷ takes_value (codes "record") ∷ takes_value (codes "max-ahead") ∷ [],
     )
     ∷ []
+
+-- each subcommand
+abbrev pub subcommand_table : List (Text × List Parameter)
+subcommand_table = table_on_texts ++ (table_on_leases ++ table_around_servers)
 
 -- ---- the command line of `clap`
 
@@ -136,9 +153,10 @@ command_line = fold with_entry program_line subcommand_table
 -- ---- what the arguments ask for
 
 -- the paths of the configuration file, the folder of the token files and the lease file, if they
--- are given
+-- are given, and whose form the configuration has
 pub record Paths : Type 0 where
   pub config : Option Text
+  pub form : Form
   pub token_dir : Option Text
   pub store : Option Text
 
@@ -206,13 +224,33 @@ pub data Asked : Type 0 where
 abbrev pub flag_is_given : Option Text → Bool
 flag_is_given value = option_map_or (λ v. bytes_eq v (codes "true")) value false
 
--- the paths in these texts
-abbrev pub paths_of : (Text → Option Text) → Paths
-paths_of text = record {
-  config = text (codes "config");
-  token_dir = text (codes "token-dir");
-  store = text (codes "store");
-}
+-- the paths with these texts of `--config`, `--kea`, `--token-dir` and `--store`, and this address of
+-- the server: a configuration in Kea's form has no token files, and only there an address is given
+abbrev pub paths_with : Option Text → Option Text → Option ℕ → Option Text → Option Text
+    → Option Paths
+paths_with config None None folder store =
+    Some (record { config = config; form = Own; token_dir = folder; store = store })
+paths_with None (Some file) address None store =
+    Some (record { config = Some file; form = Kea address; token_dir = None; store = store })
+paths_with config kea address folder store = None
+
+-- the paths in these texts, if each text that is given is well formed and they go together
+abbrev pub paths_of : (Text → Option Text) → Option Paths
+paths_of text = do
+  address ← read_if_given host_address_of (text (codes "server-address"))
+  paths_with (text (codes "config")) (text (codes "kea")) address (text (codes "token-dir"))
+      (text (codes "store"))
+
+-- whose form it is, where a socket has an address: that is the server's if it is one of a host and no
+-- other is given
+abbrev pub form_bound : ℕ → Form → Form
+form_bound address Own = Own
+form_bound address (Kea None) = Kea (if address == 0 then None else Some address)
+form_bound address (Kea (Some own)) = Kea (Some own)
+
+-- the paths of work that has a socket at an address
+abbrev pub paths_bound : ℕ → Paths → Paths
+paths_bound address paths = record paths { form = form_bound address paths.form }
 
 -- what `show` is asked to do
 abbrev pub showing_of : (Text → Option Text) → Option Asked
@@ -234,8 +272,10 @@ replay_of (Some line) = explains line
 
 -- what `replay` is asked to do, if the text for a line number, when given, is one
 abbrev pub replaying_of : (Text → Option Text) → Option Asked
-replaying_of text = option_map (λ line. works (paths_of text) (replay_of line))
-    (read_if_given event_line_of (text (codes "why")))
+replaying_of text = do
+  line ← read_if_given event_line_of (text (codes "why"))
+  paths ← paths_of text
+  Some (works paths (replay_of line))
 
 -- what is asked with these paths for a view at a time: the lease file is needed if another process
 -- may have it open
@@ -248,7 +288,8 @@ abbrev pub viewing_of : Sight → (Text → Option Text) → Option Asked
 viewing_of sight text = do
   digits ← text (codes "at")
   moment ← number_of digits
-  view_with (paths_of text) sight moment (flag_is_given (text (codes "live")))
+  paths ← paths_of text
+  view_with paths sight moment (flag_is_given (text (codes "live")))
 
 -- what `pools` prints, by the text of its flag `--prometheus`
 abbrev pub pools_sight : Option Text → Sight
@@ -294,7 +335,9 @@ checking_of text = do
   address ← read_or address_of loopback (text (codes "bind"))
   own ← read_or port_of 67 (text (codes "port"))
   seconds ← read_if_given number_of (text (codes "max-ahead"))
-  Some (checks (paths_of text) (record { bind = address; port = own; max_ahead = seconds }))
+  paths ← paths_of text
+  Some (checks (paths_bound address paths)
+      (record { bind = address; port = own; max_ahead = seconds }))
 
 -- what `serve` is asked to do, if each text that is given is in range and the count is given
 abbrev pub serving_of : (Text → Option Text) → Option Asked
@@ -303,7 +346,8 @@ serving_of text = do
   digits ← text (codes "count")
   count ← number_of digits
   seconds ← read_if_given number_of (text (codes "max-ahead"))
-  Some (works (paths_of text) (serves (record {
+  paths ← paths_of text
+  Some (works (paths_bound listening.bind paths) (serves (record {
     listening = listening;
     count = count;
     journal = text (codes "record");
@@ -348,7 +392,7 @@ abbrev pub IsVersion : List Text → Type 0
 IsVersion words = IsAmong DisplayVersion (fault_of command_line words)
 
 -- `clap` finds no fault in the arguments, but their subcommand asks for nothing: a text is out of
--- range or malformed, or `--live` is given without `--store`
+-- range or malformed, or options are given that do not go together, as `--live` without `--store`
 pub record AsksNothing (words : List Text) : Type 0 where
   pub whole : fault_of command_line words ≡ []
   pub entered : asked_of (subcommand_of command_line words) ≡ None
@@ -367,6 +411,7 @@ IsMistake words =
 abbrev pub paths_in : Files → Paths
 paths_in files = record {
   config = option_map string_bytes files.config;
+  form = files.form;
   token_dir = option_map string_bytes files.token_dir;
   store = option_map string_bytes files.store;
 }

@@ -5,10 +5,11 @@ use Rattle.clap.specs.Words.{Text, first_value, found_of}
 use Rattle.clap.specs.declared.parser.matches.ArgMatches.{ArgMatches}
 use Rattle.clap.specs.declared.error.kind.ErrorKind.{ErrorKind}
 use Rattle.clap.specs.declared.error.kind.ErrorKind.TheVariants.{DisplayHelp, DisplayVersion, OutOfMemory}
-use Rattle.kd_commands.specs.Order.{Asked, GivesUnlessFull}
+use Rattle.kd_commands.specs.Order.{Asked, GivesUnlessFull, Paths, paths_in}
 use Rattle.kd_commands.specs.Values.{byte_spelled}
 use Rattle.kd_commands.specs.declared.fault.LineFault.{LineFault}
 use Rattle.kd_commands.specs.declared.fault.LineFault.TheVariants.{CommandLine, Memory}
+use Rattle.kd_commands.specs.declared.orders.Files.{Files}
 use Rattle.kd_commands.specs.declared.orders.Order.{Order}
 use Rattle.kd_commands.specs.declared.orders.Order.TheVariants.{Help, Version}
 
@@ -25,6 +26,12 @@ matched_texts matches name = first_value (found_of matches) name
 abbrev pub GivesIfThere : Option Asked → Result Order LineFault → Type 0
 GivesIfThere (Some asked) r = GivesUnlessFull asked r
 GivesIfThere None r = IsMistakeUnlessFull r
+
+-- the files have these paths, or memory ran out; if there are no paths, it is a mistake
+abbrev pub GivesPaths : Option Paths → Result Files LineFault → Type 0
+GivesPaths paths (Ok files) = paths ≡ Some (paths_in files)
+GivesPaths paths (Err CommandLine) = paths ≡ None
+GivesPaths paths (Err Memory) = Unit {0}
 
 -- an error of this kind is help, the version, a mistake, or out of memory
 abbrev pub AnswersKind : ErrorKind → Result Order LineFault → Type 0

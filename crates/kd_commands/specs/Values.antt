@@ -36,6 +36,11 @@ event_line_of text =
 abbrev pub address_of : Text → Option ℕ
 address_of text = option_map (from_be_bytes w32) (lexing.address_read text)
 
+-- the address of a host in a text, if it is one: an address that is not 0.0.0.0
+abbrev pub host_address_of : Text → Option ℕ
+host_address_of text =
+    option_and_then (λ address. if address == 0 then None else Some address) (address_of text)
+
 -- the number of a hexadecimal digit, in either case
 abbrev pub digit_spelled : ℕ → Option ℕ
 digit_spelled digit = if nat_lt (digit_value digit) 16 then Some (digit_value digit) else None

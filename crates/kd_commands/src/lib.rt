@@ -16,5 +16,5 @@ mod orders;
 mod words;
 
 pub use fault::LineFault;
-pub use orders::{Files, Listening, Order, Place, Service, View, Work};
+pub use orders::{Files, Form, Listening, Order, Place, Service, View, Work};
 pub use words::order;

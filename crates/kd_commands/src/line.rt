@@ -2,7 +2,7 @@ ghost use Rattle.std.specs.Prelude.{◌≡◌, IfOk, false, fold, map};
 ghost use Rattle.clap.specs.Words.{app_of, new_app, with_rule};
 ghost use Rattle.clap.specs.declared.builder.command.Command.TheViews.{out-Command};
 ghost use Rattle.kd_commands.specs.Arguments.{entry_of, parameter_of};
-ghost use Rattle.kd_commands.specs.Order.{command_line, parameter_rule, program_line, subcommand_line, with_entry};
+ghost use Rattle.kd_commands.specs.Order.{command_line, parameter_rule, program_line, subcommand_line, table_around_servers, table_on_leases, table_on_texts, with_entry};
 
 use crate::argument::Argument;
 use clap::Command;
@@ -19,6 +19,20 @@ struct Subcommand<'a> {
 
 // `--config F`.
 const CONFIG: Argument<'static> = Argument::Value("config", "F", "The configuration, a JSON file");
+
+// `--kea F`.
+const KEA: Argument<'static> = Argument::Value(
+    "kea",
+    "F",
+    "The configuration, a file of ISC Kea's DHCPv4 server",
+);
+
+// `--server-address A`.
+const SERVER_ADDRESS: Argument<'static> = Argument::Value(
+    "server-address",
+    "A",
+    "The server's own address, where the file of --kea has none",
+);
 
 // `--token-dir D`.
 const TOKEN_DIR: Argument<'static> = Argument::Value(
@@ -74,8 +88,9 @@ const CLASS_TEST: Argument<'static> = Argument::Text(
     "A class test in Kea's expression language",
 );
 
-// All subcommands, in the order in which help lists them.
-const SUBCOMMANDS: &[Subcommand<'static>] = &[
+// The subcommands over texts of the command line, in the order in which help lists them. Those of the
+// next two tables follow.
+const ON_TEXTS: &[Subcommand<'static>] = &[
     Subcommand {
         name: "show",
         about: "Print a datagram line by line",
@@ -116,12 +131,18 @@ const SUBCOMMANDS: &[Subcommand<'static>] = &[
             Argument::Text("DATAGRAM", "A datagram in hexadecimal"),
         ],
     },
+];
+
+// The subcommands over a store, or over events as a server handles them.
+const ON_LEASES: &[Subcommand<'static>] = &[
     Subcommand {
         name: "replay",
         about: "Replay events from standard input",
         example: "Example (test a configuration): kdhcp replay --config config.json < /dev/null",
         arguments: &[
             CONFIG,
+            KEA,
+            SERVER_ADDRESS,
             TOKEN_DIR,
             STORE,
             Argument::Value(
@@ -135,7 +156,7 @@ const SUBCOMMANDS: &[Subcommand<'static>] = &[
         name: "leases",
         about: "Print the leases in a store at a given time",
         example: "Example: kdhcp leases --store leases.db --at \"$(date +%s)\"",
-        arguments: &[CONFIG, TOKEN_DIR, STORE, LIVE, AT],
+        arguments: &[CONFIG, KEA, SERVER_ADDRESS, TOKEN_DIR, STORE, LIVE, AT],
     },
     Subcommand {
         name: "pools",
@@ -143,6 +164,8 @@ const SUBCOMMANDS: &[Subcommand<'static>] = &[
         example: "Example: kdhcp pools --config config.json --store leases.db --live --at \"$(date +%s)\"",
         arguments: &[
             CONFIG,
+            KEA,
+            SERVER_ADDRESS,
             TOKEN_DIR,
             STORE,
             LIVE,
@@ -154,8 +177,21 @@ const SUBCOMMANDS: &[Subcommand<'static>] = &[
         name: "why",
         about: "Explain which reply a datagram gets, and why",
         example: "Example: kdhcp why --config config.json --store leases.db --live --at \"$(date +%s)\" \"$(cat discover.hex)\"",
-        arguments: &[CONFIG, TOKEN_DIR, STORE, LIVE, AT, DATAGRAM],
+        arguments: &[
+            CONFIG,
+            KEA,
+            SERVER_ADDRESS,
+            TOKEN_DIR,
+            STORE,
+            LIVE,
+            AT,
+            DATAGRAM,
+        ],
     },
+];
+
+// The subcommands around a server, and the server.
+const AROUND_SERVERS: &[Subcommand<'static>] = &[
     Subcommand {
         name: "import",
         about: "Import lease lines from standard input into an empty store",
@@ -179,7 +215,16 @@ const SUBCOMMANDS: &[Subcommand<'static>] = &[
         name: "check",
         about: "Try each step of a start, and explain what is wrong",
         example: "Example: kdhcp check --config config.json --store leases.db --bind 0.0.0.0",
-        arguments: &[CONFIG, TOKEN_DIR, STORE, BIND, PORT, MAX_AHEAD],
+        arguments: &[
+            CONFIG,
+            KEA,
+            SERVER_ADDRESS,
+            TOKEN_DIR,
+            STORE,
+            BIND,
+            PORT,
+            MAX_AHEAD,
+        ],
     },
     Subcommand {
         name: "serve",
@@ -187,6 +232,8 @@ const SUBCOMMANDS: &[Subcommand<'static>] = &[
         example: "Example: kdhcp serve --config config.json --store leases.db --bind 0.0.0.0 --count 18446744073709551615",
         arguments: &[
             CONFIG,
+            KEA,
+            SERVER_ADDRESS,
             TOKEN_DIR,
             STORE,
             BIND,
@@ -210,10 +257,34 @@ const SUBCOMMANDS: &[Subcommand<'static>] = &[
 ];
 
 // The whole command line.
+#[tactic(auto, using(crate::proofs::Tables::in_three))]
 pub(crate) fn kdhcp<'a>(alloc: Global) -> Result<Command<'a>, AllocError>
     ensures { IfOk result (λ c. app_of c ≡ command_line) }
 {
-    add_subcommands(alloc, program(alloc)?, SUBCOMMANDS)
+    let line = add_on_texts(alloc, program(alloc)?)?;
+    add_around_servers(alloc, add_on_leases(alloc, line)?)
+}
+
+// Adds the subcommands over texts to a command line.
+fn add_on_texts<'a>(alloc: Global, line: Command<'a>) -> Result<Command<'a>, AllocError>
+    ensures { IfOk result (λ c. app_of c ≡ fold with_entry (app_of line.entry) table_on_texts) }
+{
+    add_subcommands(alloc, line, ON_TEXTS)
+}
+
+// Adds the subcommands over a store or events to a command line.
+fn add_on_leases<'a>(alloc: Global, line: Command<'a>) -> Result<Command<'a>, AllocError>
+    ensures { IfOk result (λ c. app_of c ≡ fold with_entry (app_of line.entry) table_on_leases) }
+{
+    add_subcommands(alloc, line, ON_LEASES)
+}
+
+// Adds the subcommands around a server to a command line.
+fn add_around_servers<'a>(alloc: Global, line: Command<'a>) -> Result<Command<'a>, AllocError>
+    ensures { IfOk result
+        (λ c. app_of c ≡ fold with_entry (app_of line.entry) table_around_servers) }
+{
+    add_subcommands(alloc, line, AROUND_SERVERS)
 }
 
 // The command line before its subcommands.

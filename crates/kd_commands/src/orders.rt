@@ -75,10 +75,22 @@ pub enum Order {
 pub struct Files {
     /// The configuration file.
     pub config: Option<String>,
+    /// Whose form the configuration file has; that of this program if there is none.
+    pub form: Form,
     /// The folder of the token files.
     pub token_dir: Option<String>,
     /// The lease file.
     pub store: Option<String>,
+}
+
+/// Whose form the text of a configuration has.
+#[derive(Clone, Copy)]
+pub enum Form {
+    /// That of this program.
+    Own,
+    /// That of ISC Kea's DHCPv4 server. The address, if there is one, is the server's where the text
+    /// has none: an IPv4 address in host order, not 0.
+    Kea(Option<u32>),
 }
 
 /// What is done over a configuration and a store of leases.

@@ -7,17 +7,17 @@ ghost use Rattle.kd_commands.specs.Order.{Asked, Asks, AsksFor, GivesUnlessFull,
 ghost use Rattle.kd_commands.specs.Order.{IsVersionUnlessFull};
 ghost use Rattle.kd_commands.specs.Order.{answering_of, asked_by, asked_of, checking_of, compiles, evaluates};
 ghost use Rattle.kd_commands.specs.Order.{evaluation_of, filtering_of, flag_is_given, given_by, imports, listening_of};
-ghost use Rattle.kd_commands.specs.Order.{paths_in, paths_of, pools_sight, replaying_of, serving_of, showing_of};
+ghost use Rattle.kd_commands.specs.Order.{paths_bound, paths_in, paths_of, paths_with, pools_sight, replaying_of, serving_of, showing_of};
 ghost use Rattle.kd_commands.specs.Order.{sight_of, tests, types, verifies, view_with, viewing_of};
-ghost use Rattle.kd_commands.specs.Values.{address_of, event_line_of, hardware_of, number_of, port_of, read_if_given, read_or};
-ghost use Rattle.kd_commands.specs.Steps.{AnswersKind, GivesIfThere, matched_texts};
+ghost use Rattle.kd_commands.specs.Values.{address_of, event_line_of, hardware_of, host_address_of, number_of, port_of, read_if_given, read_or};
+ghost use Rattle.kd_commands.specs.Steps.{AnswersKind, GivesIfThere, GivesPaths, matched_texts};
 
 use crate::address::address_in;
 use crate::fault::LineFault;
 use crate::hardware::hardware_in;
 use crate::line::kdhcp;
 use crate::number::{event_line_in, number_in, port_in};
-use crate::orders::{Files, Listening, Order, Place, Service, View, Work};
+use crate::orders::{Files, Form, Listening, Order, Place, Service, View, Work};
 use clap::ArgMatches;
 use clap::error::ErrorKind;
 use std::alloc::{AllocError, Global};
@@ -36,7 +36,9 @@ const CLIENT_PORT: u16 = 68;
 /// # Errors
 ///
 /// `CommandLine` if the arguments are not a command of the program, the text of an option is out of
-/// range or malformed, or `--live` is given without `--store`; `Memory` if memory runs out.
+/// range or malformed, or options are given that do not go together: `--live` without `--store`,
+/// `--kea` with `--config` or `--token-dir`, `--server-address` without `--kea`. `Memory` if memory
+/// runs out.
 pub fn order(alloc: Global, words: &[String]) -> Result<Order, LineFault>
     ensures order { IfOk result (AsksFor (map string_bytes words.now)) }
     ensures fault { IfErr result (HasFault (map string_bytes words.now)) }
@@ -171,18 +173,60 @@ fn is_flagged(value: Option<&str>) -> bool
     }
 }
 
-// Returns the paths in the matches.
-fn files_of(alloc: Global, matches: &ArgMatches<'_>) -> Result<Files, AllocError>
-    ensures { IfOk result (λ files. paths_in files ≡ paths_of (matched_texts matches.now)) }
+// Returns the files in the matches.
+fn files_of(alloc: Global, matches: &ArgMatches<'_>) -> Result<Files, LineFault>
+    ensures { GivesPaths (paths_of (matched_texts matches.now)) result }
 {
+    let Some(server) = host_if_given(matches.get_str("server-address")) else {
+        return Err(LineFault::CommandLine);
+    };
     let config = text_of(alloc, matches, "config")?;
+    let kea = text_of(alloc, matches, "kea")?;
     let token_dir = text_of(alloc, matches, "token-dir")?;
     let store = text_of(alloc, matches, "store")?;
-    Ok(Files {
-        config,
-        token_dir,
-        store,
-    })
+    files_with(config, kea, server, token_dir, store)
+}
+
+// Returns the files with these paths: a configuration in Kea's form has no token files, and only
+// there an address of the server is given.
+fn files_with(
+    config: Option<String>,
+    kea: Option<String>,
+    server: Option<u32>,
+    token_dir: Option<String>,
+    store: Option<String>,
+) -> Result<Files, LineFault>
+    ensures { GivesPaths (paths_with (option_map string_bytes config)
+        (option_map string_bytes kea) server (option_map string_bytes token_dir)
+        (option_map string_bytes store)) result }
+{
+    match (kea, server) {
+        (None, None) => Ok(Files {
+            config,
+            form: Form::Own,
+            token_dir,
+            store,
+        }),
+        (Some(file), server) if config.is_none() && token_dir.is_none() => Ok(Files {
+            config: Some(file),
+            form: Form::Kea(server),
+            token_dir,
+            store,
+        }),
+        _ => Err(LineFault::CommandLine),
+    }
+}
+
+// Returns these files for work that has a socket at an address: it is the server's address if it is
+// one of a host and no other is given.
+fn files_at_socket(files: Files, address: u32) -> Files
+    ensures { paths_in result ≡ paths_bound address (paths_in files) }
+{
+    let form = match files.form {
+        Form::Kea(None) if address != 0 => Form::Kea(Some(address)),
+        form => form,
+    };
+    Files { form, ..files }
 }
 
 // Returns what the matches of `replay` ask for.
@@ -284,7 +328,7 @@ fn check_order(alloc: Global, matches: &ArgMatches<'_>) -> Result<Order, LineFau
     let Some(max_ahead) = number_if_given(matches.get_str("max-ahead")) else {
         return Err(LineFault::CommandLine);
     };
-    let files = files_of(alloc, matches)?;
+    let files = files_at_socket(files_of(alloc, matches)?, bind);
     let place = Place {
         bind,
         port,
@@ -306,7 +350,7 @@ fn serve_order(alloc: Global, matches: &ArgMatches<'_>) -> Result<Order, LineFau
     let Some(max_ahead) = number_if_given(matches.get_str("max-ahead")) else {
         return Err(LineFault::CommandLine);
     };
-    let files = files_of(alloc, matches)?;
+    let files = files_at_socket(files_of(alloc, matches)?, listening.bind);
     let journal = text_of(alloc, matches, "record")?;
     let work = Work::Serve(Service {
         listening,
@@ -351,6 +395,19 @@ fn address_if_given(value: Option<&str>) -> Option<Option<u32>>
 {
     match value {
         Some(text) => Some(Some(address_in(text)?)),
+        None => Some(None),
+    }
+}
+
+// Returns the address of a host in an argument, if the argument is given.
+fn host_if_given(value: Option<&str>) -> Option<Option<u32>>
+    ensures { result ≡ read_if_given host_address_of (option_map (λ s. s.now) value.entry) }
+{
+    match value {
+        Some(text) => match address_in(text)? {
+            0 => None,
+            address => Some(Some(address)),
+        },
         None => Some(None),
     }
 }

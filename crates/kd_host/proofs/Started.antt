@@ -9,8 +9,7 @@ use Rattle.kd_commands.specs.declared.orders.Order.{Order}
 use Rattle.kd_config.specs.Configuration.{Configuration}
 use Rattle.kd_database.specs.Stops.{LiesBelow}
 use Rattle.kd_database.specs.Stores.{IsStoreIn, StandsAsHeld, StandsNew}
-use Rattle.kd_host.specs.OnFiles.{GivesNoStore, Left, ReadsNone, RunsOnFiles, ServesFiles, TellsRefusal}
-use Rattle.kd_io.specs.Start.{IsNoStartOfFiles, IsOfFiles}
+use Rattle.kd_host.specs.OnFiles.{GivesNoStore, IsNoStartOfThese, IsOfThese, Left, ReadsNone, RunsOnFiles, ServesFiles, TellsRefusal}
 use Rattle.kd_io.specs.declared.start.StartFault.{StartFault}
 use Rattle.kd_keeps.specs.declared.fault.StoreFault.{StoreFault}
 use Rattle.kd_keeps.specs.declared.keeps.Keeps.{Ghosts}
@@ -25,18 +24,12 @@ use Rattle.kd_loops.specs.declared.ends.Sink.{Ghosts as Sinks}
 use Rattle.kd_loops.specs.declared.link.Link.{Ghosts as Links}
 use Rattle.kd_store.specs.Kept.{Kept}
 
-some_mapped : {X Y : Type 0} (f : X → Y) (o : Option X) → is_some (option_map f o) ≡ is_some o
-some_mapped f None = refl
-some_mapped f (Some x) = refl
-
 module _ {D H U L R : Type 0} (d : Disks D) (h : Hosts H (Kept (FileStore D d)) U L R) (k : Ghosts (Kept (FileStore D d))) (unnamed : Ghosts U) (l : Links L) (r : Sinks R) (image : Image)
     (left_of : H → Option (FileStore D d)) where
   -- what the machine says of a configuration, of a store, and of one that it takes back
   pub record Says : Type 0 where
-    pub configures : (before : H) (file folder : Option (List ℕ)) (config : Configuration) (after : H) → h.configures before file folder (Ok config) after
-        → IsOfFiles (is_some file) (is_some folder) config
-    pub refuses_files : (before : H) (file folder : Option (List ℕ)) (fault : StartFault) (after : H) → h.configures before file folder (Err fault) after
-        → IsNoStartOfFiles (is_some file) (is_some folder) fault
+    pub configures : (before : H) (files : Files) (config : Configuration) (after : H) → h.configures before files (Ok config) after → IsOfThese files config
+    pub refuses_files : (before : H) (files : Files) (fault : StartFault) (after : H) → h.configures before files (Err fault) after → IsNoStartOfThese files fault
     pub opens : (before : H) (path : List ℕ) (store : Kept (FileStore D d)) (after : H) → h.opens before path (Ok store) after
         → StandsAsHeld image store × StandsNew image store × IsStoreIn image store
     pub refuses : (before : H) (path : List ℕ) (fault : StoreFault) (after : H) → h.opens before path (Err fault) after → GivesNoStore d image fault
@@ -50,19 +43,12 @@ module _ {D H U L R : Type 0} (d : Disks D) (h : Hosts H (Kept (FileStore D d)) 
   abbrev Told : Files → At H → At H → ℕ → Type 0
   Told files before after status = TellsRefusal d h k l r image files before.streams after.streams status
 
-  -- what is said of the paths of files is said of the files
-  of_named : (P : Bool → Bool → Type 0) (files : Files) → P (is_some (option_map string_bytes files.config)) (is_some (option_map string_bytes files.token_dir))
-      → P (is_some files.config) (is_some files.token_dir)
-  of_named P files is =
-      subst (λ folder. P (is_some files.config) folder) (some_mapped string_bytes files.token_dir)
-      (subst (λ file. P file (is_some (option_map string_bytes files.token_dir))) (some_mapped string_bytes files.config) is)
-
   abbrev Ends : Files → Work → List ℕ → At H → At H → ℕ → Type 0
   Ends files work path before after status =
       ServesFiles d h k l r image files work before.streams (left_at after) status ⊎ (Told files before after status ⊎ ReadsNone d h k l r work path)
 
   -- work is done over the store at the path
-  worked : Says → (files : Files) (work : Work) (path : List ℕ) (config : Configuration) → IsOfFiles (is_some files.config) (is_some files.token_dir) config
+  worked : Says → (files : Files) (work : Work) (path : List ℕ) (config : Configuration) → IsOfThese files config
       → option_map string_bytes files.store ≡ Some path → (before after : At H) (status : ℕ) → WorksOver h k unnamed l r (Some path) work config before after status
       → Ends files work path before after status
   worked says files work path config of named before after status (inl (store, opened, given, w)) =
@@ -89,14 +75,14 @@ module _ {D H U L R : Type 0} (d : Disks D) (h : Hosts H (Kept (FileStore D d)) 
   worked says files work path config of named before after status (inr (fault, given, told)) = inr (inl (inr (fault, says.refuses _ path fault _ given, told)))
 
   -- the same, once the store is known to be that one
-  at_path : Says → (files : Files) (work : Work) (path : List ℕ) (config : Configuration) → IsOfFiles (is_some files.config) (is_some files.token_dir) config
+  at_path : Says → (files : Files) (work : Work) (path : List ℕ) (config : Configuration) → IsOfThese files config
       → option_map string_bytes files.store ≡ Some path → (before after : At H) (status : ℕ) (store : Option (List ℕ)) → store ≡ Some path
       → WorksOver h k unnamed l r store work config before after status → Ends files work path before after status
   at_path says files work path config of named before after status store is w =
       worked says files work path config of named before after status (subst (λ o. WorksOver h k unnamed l r o work config before after status) is w)
 
   -- the same, where a trial of the path chose the store
-  tried : Says → (files : Files) (work : Work) (path : List ℕ) (config : Configuration) → IsOfFiles (is_some files.config) (is_some files.token_dir) config
+  tried : Says → (files : Files) (work : Work) (path : List ℕ) (config : Configuration) → IsOfThese files config
       → option_map string_bytes files.store ≡ Some path → (before after : At H) (status : ℕ) (store : Option (List ℕ))
       → (h.tries before.host path (Ok false) → ReadsNone d h k l r work path) → IsStoreFound h path before.host store
       → WorksOver h k unnamed l r store work config before after status → Ends files work path before after status
@@ -105,7 +91,7 @@ module _ {D H U L R : Type 0} (d : Disks D) (h : Hosts H (Kept (FileStore D d)) 
   tried says files work path config of named before after status store reads (Err trouble, found, is) w = at_path says files work path config of named before after status store is w
 
   -- the same over the store for this work, which a trial of the path may have chosen
-  chosen : Says → (files : Files) (work : Work) (path : List ℕ) (config : Configuration) → IsOfFiles (is_some files.config) (is_some files.token_dir) config
+  chosen : Says → (files : Files) (work : Work) (path : List ℕ) (config : Configuration) → IsOfThese files config
       → option_map string_bytes files.store ≡ Some path → (before after : At H) (status : ℕ) (store : Option (List ℕ)) → IsStoreFor h (Some path) work before.host store
       → WorksOver h k unnamed l r store work config before after status → Ends files work path before after status
   chosen says files works.Replay path config of named before after status store is w =
@@ -118,7 +104,7 @@ module _ {D H U L R : Type 0} (d : Disks D) (h : Hosts H (Kept (FileStore D d)) 
       at_path says files (works.Serve service) path config of named before after status store is w
 
   -- work that is no live view is done as a server
-  as_server : Says → (files : Files) (work : Work) (path : List ℕ) (config : Configuration) → IsOfFiles (is_some files.config) (is_some files.token_dir) config
+  as_server : Says → (files : Files) (work : Work) (path : List ℕ) (config : Configuration) → IsOfThese files config
       → option_map string_bytes files.store ≡ Some path → (before after : At H) (status : ℕ) (live : Option (List ℕ × View × ℕ)) → live ≡ None
       → WorksBy h k unnamed l r live (option_map string_bytes files.store) work config before after status → Ends files work path before after status
   as_server says files work path config of named before after status None is w =
@@ -128,10 +114,10 @@ module _ {D H U L R : Type 0} (d : Disks D) (h : Hosts H (Kept (FileStore D d)) 
   started : Says → (files : Files) (work : Work) (path : List ℕ) (before after : At H) (status : ℕ) → option_map string_bytes files.store ≡ Some path
       → live_view (Some path) work ≡ None → Starts h k unnamed l r files work before after status → Ends files work path before after status
   started says files work path before after status named idle (inl (config, asked, given, w)) =
-      as_server says files work path config (of_named (λ file folder. IsOfFiles file folder config) files (says.configures before.host _ _ config asked given)) named
+      as_server says files work path config (says.configures before.host files config asked given) named
       (record before { host = asked }) after status w.live (w.is_live ∙ ap (λ o. live_view o work) named ∙ idle) w.works
   started says files work path before after status named idle (inr (fault, given, told)) =
-      inr (inl (inl (fault, of_named (λ file folder. IsNoStartOfFiles file folder fault) files (says.refuses_files _ _ _ fault _ given), told)))
+      inr (inl (inl (fault, says.refuses_files _ files fault _ given, told)))
 
   pub on_files : Says → (words : List (List ℕ)) (before after : At H) (status : ℕ) → Carries h k unnamed l r words before after status
       → RunsOnFiles d h k l r image words before.streams (left_at after) status

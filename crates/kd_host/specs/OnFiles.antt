@@ -1,5 +1,5 @@
 -- What the arguments of a command line do over a machine whose files held these bytes.
-use Rattle.std.specs.Prelude.{◌≡◌, ◌⊎◌, ℕ, Err, IfOk, List, Ok, Option, None, Result, Some, false, is_some, option_map, string_bytes}
+use Rattle.std.specs.Prelude.{◌≡◌, ◌⊎◌, ℕ, Bool, Err, IfOk, List, Ok, Option, None, Result, Some, false, is_some, option_map, string_bytes, true}
 use Rattle.sqlite_disk.specs.declared.Disk.{Ghosts as Disks}
 use Rattle.sqlite_store.specs.FileStore.{view}
 use Rattle.sqlite_store.specs.declared.store.FileStore.{FileStore}
@@ -8,6 +8,8 @@ use Rattle.sqlite_wal.specs.Recovery.{Image}
 use Rattle.kd_commands.specs.Order.{AsksFor, HasFault, line_fault_number}
 use Rattle.kd_commands.specs.declared.fault.LineFault.{LineFault}
 use Rattle.kd_commands.specs.declared.orders.Files.{Files}
+use Rattle.kd_commands.specs.declared.orders.Form.{Form}
+use Rattle.kd_commands.specs.declared.orders.Form.TheVariants.{Kea}
 use Rattle.kd_commands.specs.declared.orders.Listening.{Listening}
 use Rattle.kd_commands.specs.declared.orders.Order.{Order}
 use Rattle.kd_commands.specs.declared.orders.Order.TheVariants as orders
@@ -19,7 +21,7 @@ use Rattle.kd_database.specs.Stops.{LiesBelow}
 use Rattle.kd_database.specs.Stores.{IsNoStoreIn, IsStoreIn, StandsAsHeld, StandsNew}
 use Rattle.kd_io.specs.Faults.{start_fault_number}
 use Rattle.kd_io.specs.Looking.{IsCopyFault}
-use Rattle.kd_io.specs.Start.{IsNoStartOfFiles, IsOfFiles}
+use Rattle.kd_io.specs.Start.{IsNoStartOfFiles, IsNoStartOfKeaFile, IsOfFiles, IsOfKeaFile}
 use Rattle.kd_io.specs.declared.link.Sending.{Sending}
 use Rattle.kd_io.specs.declared.look.LookFault.{LookFault}
 use Rattle.kd_io.specs.declared.look.LookFault.TheVariants as looks
@@ -66,6 +68,26 @@ GivesNoRows d fault = IsCopyFault fault
 abbrev pub GivesNoStore : {D : Type 0} → Disks D → Image → StoreFault → Type 0
 GivesNoStore d image fault = IsNoStoreIn d image fault ⊎ (fault ≡ Sql Closed)
 
+-- the configuration of a file in this form, if a file is named, with token files, if a folder is
+-- named
+abbrev pub IsInForm : Form → Bool → Bool → Configuration → Type 0
+IsInForm (Kea server) true has_folder c = IsOfKeaFile server c
+IsInForm form has_file has_folder c = IsOfFiles has_file has_folder c
+
+-- why a file in this form gives no configuration
+abbrev pub IsNoStartInForm : Form → Bool → Bool → StartFault → Type 0
+IsNoStartInForm (Kea server) true has_folder fault = IsNoStartOfKeaFile server fault
+IsNoStartInForm form has_file has_folder fault = IsNoStartOfFiles has_file has_folder fault
+
+-- the configuration of these files
+abbrev pub IsOfThese : Files → Configuration → Type 0
+IsOfThese files c = IsInForm files.form (is_some files.config) (is_some files.token_dir) c
+
+-- why these files give no configuration
+abbrev pub IsNoStartOfThese : Files → StartFault → Type 0
+IsNoStartOfThese files fault =
+    IsNoStartInForm files.form (is_some files.config) (is_some files.token_dir) fault
+
 -- what a command leaves: its streams, and what is below its store, if it had one
 pub record Left (F : Type 0) : Type 0 where
   pub streams : Streams
@@ -82,7 +104,7 @@ module _ {D H U L R : Type 0} (d : Disks D) (h : Hosts H (Kept (FileStore D d)) 
   pub record ServesFiles (image : Image) (files : Files) (work : Work) (old : Streams)
       (left : Left (FileStore D d)) (status : ℕ) : Type 0 where
     pub config : Configuration
-    pub of_files : IsOfFiles (is_some files.config) (is_some files.token_dir) config
+    pub of_files : IsOfThese files config
     pub store : Kept (FileStore D d)
     pub held : StandsAsHeld image store
     pub new : StandsNew image store
@@ -101,7 +123,7 @@ module _ {D H U L R : Type 0} (d : Disks D) (h : Hosts H (Kept (FileStore D d)) 
   abbrev pub TellsRefusal : Image → Files → Streams → Streams → ℕ → Type 0
   TellsRefusal image files old new status =
       ((fault : StartFault)
-      × IsNoStartOfFiles (is_some files.config) (is_some files.token_dir) fault
+      × IsNoStartOfThese files fault
       × Tells (start_fault_number fault) status old new)
       ⊎ ((fault : StoreFault) × GivesNoStore d image fault
       × Tells (store_fault_number fault) status old new)

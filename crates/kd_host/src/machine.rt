@@ -1,10 +1,12 @@
+ghost use Rattle.std.specs.Prelude.{◌≡◌, is_some};
+
 use kd_check::findings::{SocketTrouble, StoreTrouble};
-use kd_commands::{Files, Listening};
+use kd_commands::{Files, Form, Listening};
 use kd_config::Config;
 use kd_database::{left_out, let_go, rows_in_bytes, store_from};
 use kd_io::{
     Appended, Copied, LookFault, Output, Sending, Socket, StartFault, configuration, copy_at,
-    journal, seconds_of, start_words, try_database, try_socket,
+    journal, kea_configuration, kea_start_words, seconds_of, start_words, try_database, try_socket,
 };
 use kd_keeps::{Cause, Opened, StoreFault, Volatile};
 use kd_loops::EndFailed;
@@ -65,8 +67,7 @@ impl<'a, F: Start> Host for Machine<'a, F, Below<F>> {
     ghost use Rattle.sqlite_wal.specs.Files.{image_at};
     ghost use Rattle.kd_database.specs.Stops.{LiesBelow};
     ghost use Rattle.kd_database.specs.Stores.{IsStoreIn, StandsAsHeld, StandsNew};
-    ghost use Rattle.kd_io.specs.Start.{IsNoStartOfFiles, IsOfFiles};
-    ghost use Rattle.kd_host.specs.OnFiles.{AreRowsFound, GivesNoRows, GivesNoStore, IsOfHanded, sending_of};
+    ghost use Rattle.kd_host.specs.OnFiles.{AreRowsFound, GivesNoRows, GivesNoStore, IsNoStartOfThese, IsOfHanded, IsOfThese, sending_of};
 
     type Named = Store<Below<F>>;
 
@@ -76,9 +77,8 @@ impl<'a, F: Start> Host for Machine<'a, F, Below<F>> {
 
     type Journal = Output<File>;
 
-    ghost configures = { λ old file folder result new.
-        IfOk result (IsOfFiles (is_some file) (is_some folder))
-        × IfErr result (IsNoStartOfFiles (is_some file) (is_some folder)) };
+    ghost configures = { λ old files result new.
+        IfOk result (IsOfThese files) × IfErr result (IsNoStartOfThese files) };
 
     ghost opens = { λ old path result new.
         IfOk result (λ store. StandsAsHeld (image_at F.Start) store
@@ -107,12 +107,12 @@ impl<'a, F: Start> Host for Machine<'a, F, Below<F>> {
 
     ghost version = { λ machine. machine.version.now };
 
-    fn configuration(
-        &mut self,
-        file: Option<&str>,
-        folder: Option<&str>,
-    ) -> Result<Config, StartFault> {
-        configuration(self.rt, file, folder)
+    fn configuration(&mut self, files: &Files) -> Result<Config, StartFault> {
+        let file = path_if_given(&files.config);
+        match (files.form, file) {
+            (Form::Kea(server), Some(path)) => kea_configuration(self.rt, path, server),
+            (_, file) => configuration(self.rt, file, path_if_given(&files.token_dir)),
+        }
     }
 
     fn named_store(&mut self, path: &str) -> Result<Opened<Store<Below<F>>>, StoreFault> {
@@ -157,21 +157,21 @@ impl<'a, F: Start> Host for Machine<'a, F, Below<F>> {
     }
 
     fn journal(&mut self, path: &str, files: &Files) -> Result<Appended<Output<File>>, EndFailed> {
-        let config = path_of(&files.config);
-        let store = path_of(&files.store);
+        // No file has an empty path.
+        let config = path_if_given(&files.config).unwrap_or("");
+        let store = path_if_given(&files.store).unwrap_or("");
         match log_of(self.rt.alloc(), &files.store) {
             Ok(log) => journal(self.rt, path, &[config, store, log.as_str()]),
             Err(_) => Err(EndFailed),
         }
     }
 
-    fn start_words(
-        &self,
-        file: Option<&str>,
-        folder: Option<&str>,
-        fault: &StartFault,
-    ) -> Result<String, AllocError> {
-        start_words(self.rt, file, folder, fault)
+    fn start_words(&self, files: &Files, fault: &StartFault) -> Result<String, AllocError> {
+        let file = path_if_given(&files.config);
+        match (files.form, file) {
+            (Form::Kea(_), Some(path)) => kea_start_words(self.rt, path, fault),
+            (_, file) => start_words(self.rt, file, path_if_given(&files.token_dir), fault),
+        }
     }
 
     fn try_database(&self, path: &str) -> Result<bool, StoreTrouble> {
@@ -201,11 +201,13 @@ impl<'a, F: Start> Host for Machine<'a, F, Below<F>> {
     }
 }
 
-// Returns a path, or an empty one, which no file has, if none is given.
-fn path_of(path: &Option<String>) -> &str {
+// Returns a path, if one is given.
+fn path_if_given(path: &Option<String>) -> Option<&str>
+    ensures { is_some result ≡ is_some path.now }
+{
     match path {
-        Some(path) => path.as_str(),
-        None => "",
+        Some(path) => Some(path.as_str()),
+        None => None,
     }
 }
 

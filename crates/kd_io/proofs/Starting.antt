@@ -2,7 +2,8 @@
 use Rattle.std.proofs.Common.{◌≡◌, ℕ, ◌≤◌, Bool, true, List, length, Option, Some, None, is_some, IfSome, IfErr, IfOk, Result, Ok, Err, inl, sym}
 use Rattle.kd_config.specs.Configuration.{Configuration}
 use Rattle.kd_json.specs.declared.token_file.TokenFile.{TokenFile}
-use Rattle.kd_io.specs.Start.{AreOfFolder, IsNoStart, IsNoStartOfFiles, IsOfFiles, IsStart}
+use Rattle.kd_io.specs.Start.{AreOfFolder, IsNoKeaStart, IsNoStart, IsNoStartOfFiles, IsNoStartOfKeaFile, IsOfFiles, IsOfKeaFile, IsStart}
+use Rattle.kd_kea.specs.Kea.{IsKea}
 use Rattle.kd_io.specs.declared.start.StartFault.{StartFault}
 use Rattle.kd_io.specs.declared.start.StartFault.TheVariants as starts
 
@@ -32,3 +33,15 @@ fault_of_files file folder (Some text) files (Err (starts.Config fault)) named s
       of_folder = of_folder;
       refused = why;
     }
+
+-- the configuration of the text of a file in Kea's form
+pub of_kea_file : (server : Option ℕ) (text : List ℕ) (r : Result Configuration StartFault) → length text ≤ 16777216 → IfOk r (IsKea text server) → IfOk r (IsOfKeaFile server)
+of_kea_file server text (Ok c) short means = record { text = text; short = short; means = means }
+of_kea_file server text (Err fault) short means = tt
+
+-- the fault of the text of a file in Kea's form
+pub fault_of_kea_file : (server : Option ℕ) (text : List ℕ) (r : Result Configuration StartFault) → length text ≤ 16777216 → IfErr r (IsNoKeaStart text server)
+    → IfErr r (IsNoStartOfKeaFile server)
+fault_of_kea_file server text (Ok c) short refused = tt
+fault_of_kea_file server text (Err (starts.Input fault)) short refused = tt
+fault_of_kea_file server text (Err (starts.Config fault)) short refused = record { text = text; short = short; refused = refused }

@@ -5,6 +5,7 @@ use Rattle.kd_json.specs.Configured.{IsConfigured}
 use Rattle.kd_json.specs.declared.fault.ConfigFault.{ConfigFault}
 use Rattle.kd_json.specs.declared.fault.ConfigFault.TheVariants as configs
 use Rattle.kd_json.specs.declared.token_file.TokenFile.{TokenFile}
+use Rattle.kd_kea.specs.Kea.{IsKea}
 use Rattle.kd_io.specs.declared.files.InputFault.TheVariants as inputs
 use Rattle.kd_io.specs.declared.start.StartFault.{StartFault}
 use Rattle.kd_io.specs.declared.start.StartFault.TheVariants as starts
@@ -51,3 +52,27 @@ IsNoStartOfFiles has_file has_folder (starts.Input fault) =
     (fault ≡ inputs.Memory) ⊎ ((has_file ≡ true) ⊎ (has_folder ≡ true))
 IsNoStartOfFiles has_file has_folder (starts.Config fault) =
     HasTextFault has_file has_folder fault
+
+-- the configuration of a text in Kea's form, by the address of the server that is given
+pub record IsOfKeaFile (server : Option ℕ) (c : Configuration) : Type 0 where
+  pub text : List ℕ
+  pub short : length text ≤ 16777216
+  pub means : IsKea text server c
+
+-- a fault of a text in Kea's form that means no configuration, or out of memory
+abbrev pub IsNoKeaStart : List ℕ → Option ℕ → StartFault → Type 0
+IsNoKeaStart text server (starts.Input fault) = fault ≡ inputs.Memory
+IsNoKeaStart text server (starts.Config fault) =
+    fault ≢ configs.Memory → (c : Configuration) → IsKea text server c → ⊥
+
+-- a text in Kea's form has this fault
+pub record HasKeaFault (server : Option ℕ) (fault : ConfigFault) : Type 0 where
+  pub text : List ℕ
+  pub short : length text ≤ 16777216
+  pub refused : IsNoKeaStart text server (starts.Config fault)
+
+-- why a file in Kea's form gives no configuration: memory ran out, it cannot be read, or its text
+-- has a fault
+abbrev pub IsNoStartOfKeaFile : Option ℕ → StartFault → Type 0
+IsNoStartOfKeaFile server (starts.Input fault) = Unit {0}
+IsNoStartOfKeaFile server (starts.Config fault) = HasKeaFault server fault

@@ -1,11 +1,13 @@
 ghost use Rattle.std.specs.Prelude.{◌≡◌, IfErr, IfOk, is_some, true};
 ghost use Rattle.std.specs.Option.{option_copied};
 ghost use Rattle.kd_io.specs.Faults.{start_fault_number};
-ghost use Rattle.kd_io.specs.Start.{AreOfFolder, IsNoStart, IsNoStartOfFiles, IsOfFiles, IsStart};
+ghost use Rattle.kd_kea.specs.Kea.{IsKea};
+ghost use Rattle.kd_io.specs.Start.{AreOfFolder, IsNoKeaStart, IsNoStart, IsNoStartOfFiles, IsNoStartOfKeaFile, IsOfFiles, IsOfKeaFile, IsStart};
 
 use crate::files::{InputFault, MOST_BYTES, read_file, token_files};
 use kd_config::Config;
 use kd_json::{ConfigFault, TokenFile, read_config};
+use kd_kea::read_kea;
 use std::alloc::{AllocError, Global};
 use std::fmt;
 use std::rt::Files;
@@ -117,6 +119,33 @@ pub fn configuration<R: Files + AllocGlobal + Clone + Drop>(
         }
         None => config_of(rt.alloc(), None, &tokens),
     }
+}
+
+/// Reads the configuration of the file at a path, whose text has the form of ISC Kea's DHCPv4
+/// server. `server` is the server's address, in host order and not 0, where the text has none.
+///
+/// # Errors
+///
+/// The fault of reading the file, then the first of the text; `Memory` if memory runs out.
+#[tactic(auto, using(crate::proofs::Starting::of_kea_file, crate::proofs::Starting::fault_of_kea_file))]
+pub fn kea_configuration<R: Files + AllocGlobal + Clone + Drop>(
+    rt: &R,
+    path: &str,
+    server: Option<u32>,
+) -> Result<Config, StartFault>
+    ensures found { IfOk result (IsOfKeaFile server) }
+    ensures refused { IfErr result (IsNoStartOfKeaFile server) }
+{
+    let bytes = read_file(rt, path, MOST_BYTES)?;
+    kea_config_of(rt.alloc(), bytes.as_slice(), server)
+}
+
+// Returns the configuration of a text in Kea's form, by the address of the server where it has none.
+fn kea_config_of(alloc: Global, text: &[u8], server: Option<u32>) -> Result<Config, StartFault>
+    ensures found { IfOk result (IsKea text.now server) }
+    ensures refused { IfErr result (IsNoKeaStart text.now server) }
+{
+    Ok(read_kea(alloc, text, server)?)
 }
 
 // Reads the token files of a folder, if there is one.

@@ -8,6 +8,7 @@ use kd_check::config_report;
 use kd_check::findings::{FileTrouble, SocketTrouble, StoreTrouble};
 use kd_event::Ports;
 use kd_json::ConfigFault;
+use kd_kea::plain_text;
 use kd_names::signs_of;
 use libc::PATH_MAX;
 use os::RangeLock;
@@ -47,6 +48,40 @@ pub fn start_words(
         ),
         StartFault::Input(InputFault::Read) => unread_words(rt, file, folder),
         StartFault::Config(fault) => config_words(rt, file, fault),
+    }
+}
+
+/// Returns, in words, why the file at a path, whose text has the form of ISC Kea's DHCPv4 server,
+/// gives no configuration, as `start_words` does.
+///
+/// # Errors
+///
+/// Out of memory.
+pub fn kea_start_words(
+    rt: &HostRuntime,
+    path: &str,
+    fault: &StartFault,
+) -> Result<String, AllocError> {
+    match fault {
+        StartFault::Input(_) => start_words(rt, Some(path), None, fault),
+        StartFault::Config(fault) => {
+            let name = signs_of(rt.alloc(), path.as_bytes())?;
+            let text = plain_text_at(rt, path)?;
+            config_report(rt.alloc(), &name, text.as_slice(), fault)
+        }
+    }
+}
+
+// Returns the JSON in the file at a path, whose text has the form of Kea's; no bytes if it cannot be
+// read.
+fn plain_text_at(rt: &HostRuntime, path: &str) -> Result<Vec<u8>, AllocError> {
+    let alloc = rt.alloc();
+    let Ok(text) = read_file(rt, path, MOST_BYTES) else {
+        return Ok(Vec::new(alloc));
+    };
+    match plain_text(alloc, text.as_slice())? {
+        Some(plain) => Ok(plain),
+        None => Ok(text),
     }
 }
 

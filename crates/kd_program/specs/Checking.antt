@@ -104,8 +104,7 @@ module _ {H N U L R : Type 0} (h : Hosts H N U L R) where
       (status : ℕ) : Type 0 where
     pub config : Result Configuration StartFault
     pub asked : H
-    pub given : h.configures before.host (option_map string_bytes files.config)
-        (option_map string_bytes files.token_dir) config asked
+    pub given : h.configures before.host files config asked
     pub store : StoreFinding
     pub store_found : FindsStore (option_map string_bytes files.store) place.max_ahead asked
         after.host store

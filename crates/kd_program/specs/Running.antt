@@ -346,8 +346,7 @@ module _ {H N U L R : Type 0} (h : Hosts H N U L R) (named : Ghosts N) (unnamed 
   -- work under the configuration of these files, over the store that they name
   abbrev pub Starts : Files → Work → At H → At H → ℕ → Type 0
   Starts files work =
-      Obtains (λ old config new. h.configures old (option_map string_bytes files.config)
-      (option_map string_bytes files.token_dir) config new) (λ fault. start_fault_number fault)
+      Obtains (λ old config new. h.configures old files config new) (λ fault. start_fault_number fault)
       (λ config. WorksUnder (option_map string_bytes files.store) work config)
 
   -- the lines on standard input are imported into a store that the host has opened at a path, and

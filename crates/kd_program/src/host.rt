@@ -11,9 +11,9 @@ use std::alloc::AllocError;
 pub trait Host {
     ghost use Rattle.std.specs.Prelude.{◌≡◌, ℕ, Bool, Err, IfOk, List, MatchResult, Ok, Option, Result, false, is_some};
     ghost use Rattle.std.specs.List.{All};
-    ghost use Rattle.std.specs.Option.{option_copied};
     ghost use Rattle.kd_check.specs.declared.findings.SocketTrouble.{SocketTrouble};
     ghost use Rattle.kd_check.specs.declared.findings.StoreTrouble.{StoreTrouble};
+    ghost use Rattle.kd_commands.specs.declared.orders.Files.{Files};
     ghost use Rattle.kd_commands.specs.declared.orders.Listening.{Listening};
     ghost use Rattle.kd_config.specs.Configuration.{Configuration};
     ghost use Rattle.kd_io.specs.declared.look.LookFault.{LookFault};
@@ -37,11 +37,10 @@ pub trait Host {
     /// Where a record of received datagrams is written.
     type Journal: Sink + Drop;
 
-    /// The result of asking for the configuration of a file, with a folder of token files, and the
-    /// host afterwards. The relations up to `records` have the same form: the host before, what it
-    /// is asked for, what it gives or takes back, and the host afterwards.
-    ghost configures: { Self → Option (List ℕ) → Option (List ℕ) → Result Configuration StartFault
-        → Self → Type 0 };
+    /// The result of asking for the configuration of files, and the host afterwards. The relations
+    /// up to `records` have the same form: the host before, what it is asked for, what it gives or
+    /// takes back, and the host afterwards.
+    ghost configures: { Self → Files → Result Configuration StartFault → Self → Type 0 };
 
     /// The store at a path.
     ghost opens: { Self → List ℕ → Result Self.Named StoreFault → Self → Type 0 };
@@ -74,20 +73,16 @@ pub trait Host {
     /// The line that says which program this is.
     ghost version: { Self → List ℕ };
 
-    /// Returns the configuration of the file at a path, with the token files of a folder; the
-    /// built-in one if there is no file. The folder is read first.
+    /// Returns the configuration of these files: of the text of a configuration file, in the form
+    /// that it has, with the token files of a folder; the built-in one if there is no file. The
+    /// folder is read first.
     ///
     /// # Errors
     ///
     /// The first fault of reading the folder and the file, then that of the text; `Memory` if
     /// memory runs out.
-    fn configuration(
-        &mut self,
-        file: Option<&str>,
-        folder: Option<&str>,
-    ) -> Result<Config, StartFault>
-        ensures { configures self.old (option_copied file.entry) (option_copied folder.entry)
-            result self.new };
+    fn configuration(&mut self, files: &Files) -> Result<Config, StartFault>
+        ensures { configures self.old files.now result self.new };
 
     /// Opens the store of the leases at a path, or a new one if there is none, and returns it with
     /// its rows. It has not failed.
@@ -156,12 +151,7 @@ pub trait Host {
     /// # Errors
     ///
     /// Out of memory.
-    fn start_words(
-        &self,
-        file: Option<&str>,
-        folder: Option<&str>,
-        fault: &StartFault,
-    ) -> Result<String, AllocError>;
+    fn start_words(&self, files: &Files, fault: &StartFault) -> Result<String, AllocError>;
 
     /// Reports whether the database at a path exists. Nothing is created.
     ///

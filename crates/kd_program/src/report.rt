@@ -6,7 +6,6 @@ use crate::advice::put_advice;
 use crate::banner::{pool_addresses, put_place};
 use crate::checking::{Found, SeenRows, StoreFinding};
 use crate::host::Host;
-use crate::serving::path_in;
 use kd_check::findings::{SocketTrouble, StoreTrouble};
 use kd_commands::{Files, Place};
 use kd_config::Config;
@@ -152,7 +151,7 @@ fn put_fault<H: Host>(
     ensures { OnOk result ((words : List ℕ)
         × (string_bytes text.new ≡ string_bytes text.old ++ words)) }
 {
-    let words = host.start_words(path_in(&files.config), path_in(&files.token_dir), fault)?;
+    let words = host.start_words(files, fault)?;
     text.push_str(words.as_str())?;
     Ok(())
 }

@@ -147,12 +147,9 @@ fn store_found<'a, H: Host>(host: &H, path: &'a str) -> Option<&'a str>
 
 // Returns the configuration that the host gives for these files.
 pub(crate) fn read_configuration<H: Host>(host: &mut H, files: &Files) -> Result<Config, StartFault>
-    ensures { H.Host.configures host.old (option_map string_bytes files.now.config)
-        (option_map string_bytes files.now.token_dir) result host.new }
+    ensures { H.Host.configures host.old files.now result host.new }
 {
-    let file = path_in(&files.config);
-    let folder = path_in(&files.token_dir);
-    host.configuration(file, folder)
+    host.configuration(files)
 }
 
 // Returns a path, if one is given.
