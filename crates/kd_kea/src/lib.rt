@@ -1,8 +1,8 @@
 //! Reads the configuration files of ISC Kea's DHCPv4 server as they are.
 //!
 //! What this layer promises to the one above: `read_kea` returns the configuration that a text of
-//! Kea's describes, exactly when it describes one that kdhcp can serve as Kea would, unless memory
-//! runs out (`specs/Kea.antt`). The settings are those of `specs/Settings.antt`, object by object;
+//! Kea's describes by our definitions, exactly when it describes one, unless memory runs out
+//! (`specs/Kea.antt`). The settings are those of `specs/Settings.antt`, object by object;
 //! `specs/Tables.antt` lists the keys of each kind of object, and whether a key is read, skipped,
 //! or allowed with its usual values alone. Nothing that a client notices is skipped. The rules over
 //! the whole, the classes and the faults are those of kd_json.
