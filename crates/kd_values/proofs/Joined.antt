@@ -5,7 +5,7 @@ use Rattle.std.specs.List.{slice_split}
 use Rattle.std.proofs.lemmas.List.Splits.{length-slice_split}
 use Rattle.memchr.specs.Find.{is_byte}
 
-behind_both : (out v : List ℕ) (o : Option (List ℕ)) → option_map (λ w. out ++ w) (option_and_then (λ w. Some (v ++ w)) o) ≡ option_map (λ w. (out ++ v) ++ w) o
+pub behind_both : (out v : List ℕ) (o : Option (List ℕ)) → option_map (λ w. out ++ w) (option_and_then (λ w. Some (v ++ w)) o) ≡ option_map (λ w. (out ++ v) ++ w) o
 behind_both out v None = refl
 behind_both out v (Some w) = ap Some (sym (append_assoc out v w))
 

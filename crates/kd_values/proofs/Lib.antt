@@ -12,4 +12,7 @@ pub mod Readings
 pub mod Labels
 pub mod Domains
 pub mod Routes
+pub mod Commas
+pub mod Records
+pub mod Whole
 pub mod Worked

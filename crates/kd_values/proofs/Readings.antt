@@ -13,7 +13,7 @@ use Rattle.hex.proofs.HexLemmas.{decode_of-encode_lower, decode_of-ok}
 use Rattle.kd_names.specs.Values.{addresses_behind, addresses_text, dotted_text, flag_text, is_byte_within, is_grouped, message_type_text, message_type_word, number_of_bytes, sign_text, signed_text}
 use Rattle.kd_names.specs.declared.kind.Kind.TheVariants.{Address, Addresses, Pairs, Flag, Byte, Short, Long, Signed, Shorts, Codes, MessageType, Text, Name, Names, Routes, Bytes}
 use Rattle.kd_values.specs.Parts.{trimmed, values_between_commas}
-use Rattle.kd_values.specs.Numbers.{based_number, four_bytes_spelled, negative_bytes, one_byte_spelled, signed_spelled, two_bytes_spelled}
+use Rattle.kd_values.specs.Numbers.{based_number, four_bytes_spelled, one_byte_spelled, signed_spelled, two_bytes_spelled}
 use Rattle.kd_values.specs.Signs.{flag_spelled, if_any, message_type_spelled, signs_read}
 use Rattle.kd_values.specs.Digits.{digits_behind_0x, hexadecimal_spelled, is_no_separator}
 use Rattle.kd_values.specs.Laws.{PrintedReads, is_plain_sign}
@@ -66,7 +66,7 @@ pub negative_reads : (n : ℕ) (bytes : List ℕ) → 2 ^ 31 ≤ n → n < 2 ^ 3
 negative_reads n bytes large small is =
     let inner : AreInner (codes "-" ++ decimal (2 ^ 32 - n)) = (is_inner 45 (omega arith) (λ e. absurd (omega (arith, e))), number_inner (2 ^ 32 - n) (omega (arith, large, small))) in
     ap signed_spelled (inner_trimmed (codes "-" ++ decimal (2 ^ 32 - n)) inner)
-    ∙ ap (option_map negative_bytes) (based_reads (2 ^ 31 + 1) (2 ^ 32 - n) (omega (arith, large, small)) (omega (arith, large, small)))
+    ∙ ap (λ o. option_map (to_be_bytes w32) (option_map (λ m. (2 * 2 ^ 31 - m) % (2 * 2 ^ 31)) o)) (based_reads (2 ^ 31 + 1) (2 ^ 32 - n) (omega (arith, large, small)) (omega (arith, large, small)))
     ∙ ap (λ m. Some (to_be_bytes w32 m)) (omega (arith, large, small))
     ∙ ap Some is
 

@@ -1,6 +1,6 @@
 -- Worked examples: texts and their values, as `migrate/kea/options.py` has them (routes and what
--- it does not read by hand, from RFC 3442).
-use Rattle.std.proofs.Common.{◌≡◌, [], ◌∷◌, Some, None, refl}
+-- it does not read by hand, from RFC 3442). Then fields of options and their values, by hand.
+use Rattle.std.proofs.Common.{◌≡◌, true, false, [], ◌∷◌, Some, None, refl}
 use Rattle.std.specs.Prelude.{codes}
 use Rattle.std.specs.Fmt.{digits}
 use Rattle.hex.specs.Hex.{decode_pairs}
@@ -12,6 +12,8 @@ use Rattle.kd_values.specs.Signs.{flag_spelled, message_type_spelled}
 use Rattle.kd_values.specs.Digits.{hexadecimal_spelled}
 use Rattle.kd_values.specs.Names.{route_spelled}
 use Rattle.kd_values.specs.Spelled.{data_spelled}
+use Rattle.kd_values.specs.declared.field_type.FieldType.TheVariants as fields
+use Rattle.kd_values.specs.Fields.{fields_spelled}
 
 example_1 : data_spelled Addresses (codes "192.0.2.1, 192.0.2.2") ≡ (Some (192 ∷ 0 ∷ 2 ∷ 1 ∷ 192 ∷ 0 ∷ 2 ∷ 2 ∷ []))
 unfolding address_read part_at_front part_after_dot digits decode_pairs based_number flag_spelled message_type_spelled message_type_word hexadecimal_spelled route_spelled
@@ -204,3 +206,135 @@ example_47 = refl
 example_48 : data_spelled Bytes ([]) ≡ None
 unfolding address_read part_at_front part_after_dot digits decode_pairs based_number flag_spelled message_type_spelled message_type_word hexadecimal_spelled route_spelled
 example_48 = refl
+
+example_49 : fields_spelled (fields.Uint8 ∷ fields.Address ∷ fields.Text ∷ []) false (codes "1, 192.0.2.1, a\\,b") ≡ (Some (1 ∷ 192 ∷ 0 ∷ 2 ∷ 1 ∷ 97 ∷ 44 ∷ 98 ∷ []))
+unfolding address_read part_at_front part_after_dot digits decode_pairs based_number flag_spelled message_type_spelled message_type_word hexadecimal_spelled route_spelled
+example_49 = refl
+
+example_50 : fields_spelled (fields.Uint16 ∷ []) true (codes "1,2,0x03") ≡ (Some (0 ∷ 1 ∷ 0 ∷ 2 ∷ 0 ∷ 3 ∷ []))
+unfolding address_read part_at_front part_after_dot digits decode_pairs based_number flag_spelled message_type_spelled message_type_word hexadecimal_spelled route_spelled
+example_50 = refl
+
+example_51 : fields_spelled (fields.Uint16 ∷ []) false (codes "1,2") ≡ None
+unfolding address_read part_at_front part_after_dot digits decode_pairs based_number flag_spelled message_type_spelled message_type_word hexadecimal_spelled route_spelled
+example_51 = refl
+
+example_52 : fields_spelled (fields.Int8 ∷ []) false (codes "-1") ≡ (Some (255 ∷ []))
+unfolding address_read part_at_front part_after_dot digits decode_pairs based_number flag_spelled message_type_spelled message_type_word hexadecimal_spelled route_spelled
+example_52 = refl
+
+example_53 : fields_spelled (fields.Int8 ∷ []) false (codes "-128") ≡ (Some (128 ∷ []))
+unfolding address_read part_at_front part_after_dot digits decode_pairs based_number flag_spelled message_type_spelled message_type_word hexadecimal_spelled route_spelled
+example_53 = refl
+
+example_54 : fields_spelled (fields.Int8 ∷ []) false (codes "-129") ≡ None
+unfolding address_read part_at_front part_after_dot digits decode_pairs based_number flag_spelled message_type_spelled message_type_word hexadecimal_spelled route_spelled
+example_54 = refl
+
+example_55 : fields_spelled (fields.Int8 ∷ []) false (codes "127") ≡ (Some (127 ∷ []))
+unfolding address_read part_at_front part_after_dot digits decode_pairs based_number flag_spelled message_type_spelled message_type_word hexadecimal_spelled route_spelled
+example_55 = refl
+
+example_56 : fields_spelled (fields.Int8 ∷ []) false (codes "128") ≡ None
+unfolding address_read part_at_front part_after_dot digits decode_pairs based_number flag_spelled message_type_spelled message_type_word hexadecimal_spelled route_spelled
+example_56 = refl
+
+example_57 : fields_spelled (fields.Int16 ∷ []) false (codes "-2") ≡ (Some (255 ∷ 254 ∷ []))
+unfolding address_read part_at_front part_after_dot digits decode_pairs based_number flag_spelled message_type_spelled message_type_word hexadecimal_spelled route_spelled
+example_57 = refl
+
+example_58 : fields_spelled (fields.Int16 ∷ []) false (codes "32767") ≡ (Some (127 ∷ 255 ∷ []))
+unfolding address_read part_at_front part_after_dot digits decode_pairs based_number flag_spelled message_type_spelled message_type_word hexadecimal_spelled route_spelled
+example_58 = refl
+
+example_59 : fields_spelled (fields.Int16 ∷ []) false (codes "32768") ≡ None
+unfolding address_read part_at_front part_after_dot digits decode_pairs based_number flag_spelled message_type_spelled message_type_word hexadecimal_spelled route_spelled
+example_59 = refl
+
+example_60 : fields_spelled (fields.Int16 ∷ []) false (codes "-32769") ≡ None
+unfolding address_read part_at_front part_after_dot digits decode_pairs based_number flag_spelled message_type_spelled message_type_word hexadecimal_spelled route_spelled
+example_60 = refl
+
+example_61 : fields_spelled (fields.Int32 ∷ []) false (codes "-3600") ≡ (Some (255 ∷ 255 ∷ 241 ∷ 240 ∷ []))
+unfolding address_read part_at_front part_after_dot digits decode_pairs based_number flag_spelled message_type_spelled message_type_word hexadecimal_spelled route_spelled
+example_61 = refl
+
+example_62 : fields_spelled (fields.Uint32 ∷ []) false (codes "258") ≡ (Some (0 ∷ 0 ∷ 1 ∷ 2 ∷ []))
+unfolding address_read part_at_front part_after_dot digits decode_pairs based_number flag_spelled message_type_spelled message_type_word hexadecimal_spelled route_spelled
+example_62 = refl
+
+example_63 : fields_spelled (fields.Tuple ∷ []) false (codes "abc") ≡ (Some (3 ∷ 97 ∷ 98 ∷ 99 ∷ []))
+unfolding address_read part_at_front part_after_dot digits decode_pairs based_number flag_spelled message_type_spelled message_type_word hexadecimal_spelled route_spelled
+example_63 = refl
+
+example_64 : fields_spelled (fields.Tuple ∷ fields.Tuple ∷ []) false (codes "a\\, b , c") ≡ (Some (4 ∷ 97 ∷ 44 ∷ 32 ∷ 98 ∷ 1 ∷ 99 ∷ []))
+unfolding address_read part_at_front part_after_dot digits decode_pairs based_number flag_spelled message_type_spelled message_type_word hexadecimal_spelled route_spelled
+example_64 = refl
+
+example_65 : fields_spelled (fields.Tuple ∷ []) false (codes "xxxxxxxxxxxxxxxxxxxxxxxxxxxxxxxxxxxxxxxxxxxxxxxxxxxxxxxxxxxxxxxxxxxxxxxxxxxxxxxxxxxxxxxxxxxxxxxxxxxxxxxxxxxxxxxxxxxxxxxxxxxxxxxxxxxxxxxxxxxxxxxxxxxxxxxxxxxxxxxxxxxxxxxxxxxxxxxxxxxxxxxxxxxxxxxxxxxxxxxxxxxxxxxxxxxxxxxxxxxxxxxxxxxxxxxxxxxxxxxxxxxxxxxxxxxxxxxx") ≡ None
+unfolding address_read part_at_front part_after_dot digits decode_pairs based_number flag_spelled message_type_spelled message_type_word hexadecimal_spelled route_spelled
+example_65 = refl
+
+example_66 : fields_spelled [] false (codes " ") ≡ (Some [])
+unfolding address_read part_at_front part_after_dot digits decode_pairs based_number flag_spelled message_type_spelled message_type_word hexadecimal_spelled route_spelled
+example_66 = refl
+
+example_67 : fields_spelled [] false (codes "1") ≡ None
+unfolding address_read part_at_front part_after_dot digits decode_pairs based_number flag_spelled message_type_spelled message_type_word hexadecimal_spelled route_spelled
+example_67 = refl
+
+example_68 : fields_spelled (fields.Uint8 ∷ fields.Uint16 ∷ []) false (codes "1") ≡ None
+unfolding address_read part_at_front part_after_dot digits decode_pairs based_number flag_spelled message_type_spelled message_type_word hexadecimal_spelled route_spelled
+example_68 = refl
+
+example_69 : fields_spelled (fields.Uint8 ∷ fields.Uint16 ∷ []) false (codes "1,2") ≡ (Some (1 ∷ 0 ∷ 2 ∷ []))
+unfolding address_read part_at_front part_after_dot digits decode_pairs based_number flag_spelled message_type_spelled message_type_word hexadecimal_spelled route_spelled
+example_69 = refl
+
+example_70 : fields_spelled (fields.Uint8 ∷ fields.Uint16 ∷ []) false (codes "1,2,3") ≡ None
+unfolding address_read part_at_front part_after_dot digits decode_pairs based_number flag_spelled message_type_spelled message_type_word hexadecimal_spelled route_spelled
+example_70 = refl
+
+example_71 : fields_spelled (fields.Uint8 ∷ fields.Uint16 ∷ []) true (codes "1,2,3") ≡ (Some (1 ∷ 0 ∷ 2 ∷ 0 ∷ 3 ∷ []))
+unfolding address_read part_at_front part_after_dot digits decode_pairs based_number flag_spelled message_type_spelled message_type_word hexadecimal_spelled route_spelled
+example_71 = refl
+
+example_72 : fields_spelled (fields.Uint8 ∷ fields.Uint16 ∷ []) true (codes "1") ≡ None
+unfolding address_read part_at_front part_after_dot digits decode_pairs based_number flag_spelled message_type_spelled message_type_word hexadecimal_spelled route_spelled
+example_72 = refl
+
+example_73 : fields_spelled (fields.Uint8 ∷ []) true (codes "1,,2") ≡ None
+unfolding address_read part_at_front part_after_dot digits decode_pairs based_number flag_spelled message_type_spelled message_type_word hexadecimal_spelled route_spelled
+example_73 = refl
+
+example_74 : fields_spelled (fields.Uint8 ∷ []) true (codes "1,") ≡ None
+unfolding address_read part_at_front part_after_dot digits decode_pairs based_number flag_spelled message_type_spelled message_type_word hexadecimal_spelled route_spelled
+example_74 = refl
+
+example_75 : fields_spelled (fields.Uint8 ∷ fields.Address ∷ []) true (codes "7, 192.0.2.1, 192.0.2.2") ≡ (Some (7 ∷ 192 ∷ 0 ∷ 2 ∷ 1 ∷ 192 ∷ 0 ∷ 2 ∷ 2 ∷ []))
+unfolding address_read part_at_front part_after_dot digits decode_pairs based_number flag_spelled message_type_spelled message_type_word hexadecimal_spelled route_spelled
+example_75 = refl
+
+example_76 : fields_spelled (fields.Uint8 ∷ fields.Address ∷ []) true (codes "7, 192.0.2.1, 8") ≡ None
+unfolding address_read part_at_front part_after_dot digits decode_pairs based_number flag_spelled message_type_spelled message_type_word hexadecimal_spelled route_spelled
+example_76 = refl
+
+example_77 : fields_spelled (fields.Text ∷ []) true (codes "a,b") ≡ (Some (97 ∷ 98 ∷ []))
+unfolding address_read part_at_front part_after_dot digits decode_pairs based_number flag_spelled message_type_spelled message_type_word hexadecimal_spelled route_spelled
+example_77 = refl
+
+example_78 : fields_spelled (fields.Text ∷ []) false (codes "a,b") ≡ None
+unfolding address_read part_at_front part_after_dot digits decode_pairs based_number flag_spelled message_type_spelled message_type_word hexadecimal_spelled route_spelled
+example_78 = refl
+
+example_79 : fields_spelled (fields.Text ∷ fields.Flag ∷ []) false (codes "a\\\\,b, true") ≡ (Some (97 ∷ 92 ∷ 44 ∷ 98 ∷ 1 ∷ []))
+unfolding address_read part_at_front part_after_dot digits decode_pairs based_number flag_spelled message_type_spelled message_type_word hexadecimal_spelled route_spelled
+example_79 = refl
+
+example_80 : fields_spelled (fields.Flag ∷ fields.Name ∷ []) false (codes "false, example.org") ≡ (Some (0 ∷ 7 ∷ 101 ∷ 120 ∷ 97 ∷ 109 ∷ 112 ∷ 108 ∷ 101 ∷ 3 ∷ 111 ∷ 114 ∷ 103 ∷ 0 ∷ []))
+unfolding address_read part_at_front part_after_dot digits decode_pairs based_number flag_spelled message_type_spelled message_type_word hexadecimal_spelled route_spelled
+example_80 = refl
+
+example_81 : fields_spelled (fields.Bytes ∷ fields.Uint8 ∷ []) false (codes "0x01:02 0a, 3") ≡ (Some (1 ∷ 2 ∷ 10 ∷ 3 ∷ []))
+unfolding address_read part_at_front part_after_dot digits decode_pairs based_number flag_spelled message_type_spelled message_type_word hexadecimal_spelled route_spelled
+example_81 = refl

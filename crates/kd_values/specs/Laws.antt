@@ -1,10 +1,13 @@
--- What kd_names prints for a value is read back as this value.
-use Rattle.std.specs.Prelude.{◌≡◌, ℕ, ◌&&◌, ◌||◌, ◌==◌, not, Bool, true, nat_le, List, Some}
+-- What kd_names prints for a value is read back as this value, and a field of text is read as an option
+-- of text.
+use Rattle.std.specs.Prelude.{◌≡◌, ℕ, ◌&&◌, ◌||◌, ◌==◌, not, Bool, true, false, nat_le, List, [], ◌∷◌, Some}
 use Rattle.std.specs.List.{flat_map, list_all}
 use Rattle.hex.specs.Hex.{IsBytes}
 use Rattle.kd_names.specs.Values.{fits_kind, sign_text, text_by_kind}
 use Rattle.kd_names.specs.declared.kind.Kind.{Kind}
 use Rattle.kd_names.specs.declared.kind.Kind.TheVariants.{Text}
+use Rattle.kd_values.specs.declared.field_type.FieldType.TheVariants as fields
+use Rattle.kd_values.specs.Fields.{fields_spelled}
 use Rattle.kd_values.specs.Parts.{trimmed}
 use Rattle.kd_values.specs.Spelled.{data_spelled}
 
@@ -28,3 +31,8 @@ abbrev pub PrintedReads : Type 0
 PrintedReads =
     (kind : Kind) (value : List ℕ) → IsBytes value → fits_kind kind value ≡ true
     → PrintsPlainly kind value → data_spelled kind (bare_text kind value) ≡ Some value
+
+-- a text gives the same value for one field of text and for an option of text
+abbrev pub TextFieldReads : Type 0
+TextFieldReads =
+    (text : List ℕ) → fields_spelled (fields.Text ∷ []) false text ≡ data_spelled Text text

@@ -4,4 +4,5 @@ pub mod Signs
 pub mod Digits
 pub mod Names
 pub mod Spelled
+pub mod Fields
 pub mod Laws

@@ -46,13 +46,22 @@ two_bytes_spelled text = option_map (to_be_bytes w16) (number_below (2 ^ 16) tex
 abbrev pub four_bytes_spelled : List ℕ → Option (List ℕ)
 four_bytes_spelled text = option_map (to_be_bytes w32) (number_below (2 ^ 32) text)
 
--- the four bytes of the negative of a number in two's complement
-abbrev pub negative_bytes : ℕ → List ℕ
-negative_bytes n = to_be_bytes w32 ((2 ^ 32 - n) % 2 ^ 32)
+-- a number from -half up to half - 1 in two's complement, where there are twice half numbers; a
+-- negative one is decimal digits after a minus sign
+abbrev pub signed_number : ℕ → List ℕ → Option ℕ
+signed_number half (b ∷ digits) =
+    if b == 45 then option_map (λ n. (2 * half - n) % (2 * half)) (based_number 10 (half + 1) digits)
+    else number_below half (b ∷ digits)
+signed_number half text = number_below half text
 
--- a number of four bytes in two's complement; a negative one is decimal digits after a minus sign
+-- a number of one byte in two's complement
+abbrev pub signed_byte_spelled : List ℕ → Option (List ℕ)
+signed_byte_spelled text = option_map (λ n. n ∷ []) (signed_number (2 ^ 7) text)
+
+-- a number of two bytes in two's complement
+abbrev pub signed_short_spelled : List ℕ → Option (List ℕ)
+signed_short_spelled text = option_map (to_be_bytes w16) (signed_number (2 ^ 15) text)
+
+-- a number of four bytes in two's complement
 abbrev pub signed_spelled : List ℕ → Option (List ℕ)
-signed_spelled (b ∷ digits) =
-    if b == 45 then option_map negative_bytes (based_number 10 (2 ^ 31 + 1) digits)
-    else option_map (to_be_bytes w32) (number_below (2 ^ 31) (b ∷ digits))
-signed_spelled text = option_map (to_be_bytes w32) (number_below (2 ^ 31) text)
+signed_spelled text = option_map (to_be_bytes w32) (signed_number (2 ^ 31) text)

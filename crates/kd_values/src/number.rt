@@ -1,7 +1,8 @@
-ghost use Rattle.std.specs.Prelude.{◌≡◌, ◌+◌, ◌^◌, ◌<◌, ◌≤◌, IfOk, IfSome, option_map};
-ghost use Rattle.std.specs.Int.{to_be_bytes, w32};
-ghost use Rattle.kd_values.specs.Numbers.{one_byte_spelled, digit_in, four_bytes_spelled, negative_bytes};
-ghost use Rattle.kd_values.specs.Numbers.{number_below, based_number, two_bytes_spelled, signed_spelled};
+ghost use Rattle.std.specs.Prelude.{◌≡◌, ◌*◌, ◌^◌, ◌<◌, ◌≤◌, ◌∷◌, [], IfOk, IfSome, option_map};
+ghost use Rattle.std.specs.Int.{to_be_bytes, w16, w32};
+ghost use Rattle.kd_values.specs.Numbers.{based_number, digit_in, number_below, signed_number};
+ghost use Rattle.kd_values.specs.Numbers.{one_byte_spelled, two_bytes_spelled, four_bytes_spelled};
+ghost use Rattle.kd_values.specs.Numbers.{signed_byte_spelled, signed_short_spelled, signed_spelled};
 
 use crate::parts::some_bytes;
 use kd_wire::Bytes;
@@ -18,62 +19,92 @@ const LONGS: u64 = 0x1_0000_0000;
 pub(crate) fn byte_of(alloc: Global, text: &[u8]) -> Result<Option<Bytes>, AllocError>
     ensures { IfOk result (λ value. value ≡ one_byte_spelled text.now) }
 {
-    match number_of(text, BYTES) {
-        Some(number) => some_bytes(alloc, &[number as u8]),
-        None => Ok(None),
-    }
+    one_byte(alloc, number_of(text, BYTES))
 }
 
 // Reads a number of two bytes.
 pub(crate) fn short_of(alloc: Global, text: &[u8]) -> Result<Option<Bytes>, AllocError>
     ensures { IfOk result (λ value. value ≡ two_bytes_spelled text.now) }
 {
-    match number_of(text, SHORTS) {
-        Some(number) => some_bytes(alloc, &(number as u16).to_be_bytes()),
-        None => Ok(None),
-    }
+    two_bytes(alloc, number_of(text, SHORTS))
 }
 
 // Reads a number of four bytes.
 pub(crate) fn long_of(alloc: Global, text: &[u8]) -> Result<Option<Bytes>, AllocError>
     ensures { IfOk result (λ value. value ≡ four_bytes_spelled text.now) }
 {
-    match number_of(text, LONGS) {
-        Some(number) => some_bytes(alloc, &(number as u32).to_be_bytes()),
-        None => Ok(None),
-    }
+    four_bytes(alloc, number_of(text, LONGS))
+}
+
+// Reads a number of one byte in two's complement.
+pub(crate) fn signed_byte_of(alloc: Global, text: &[u8]) -> Result<Option<Bytes>, AllocError>
+    ensures { IfOk result (λ value. value ≡ signed_byte_spelled text.now) }
+{
+    one_byte(alloc, signed_number_of(text, BYTES / 2))
+}
+
+// Reads a number of two bytes in two's complement.
+pub(crate) fn signed_short_of(alloc: Global, text: &[u8]) -> Result<Option<Bytes>, AllocError>
+    ensures { IfOk result (λ value. value ≡ signed_short_spelled text.now) }
+{
+    two_bytes(alloc, signed_number_of(text, SHORTS / 2))
 }
 
 // Reads a number of four bytes in two's complement.
 pub(crate) fn signed_of(alloc: Global, text: &[u8]) -> Result<Option<Bytes>, AllocError>
     ensures { IfOk result (λ value. value ≡ signed_spelled text.now) }
 {
-    match text {
-        [b'-', digits @ ..] => negative_of(alloc, digits),
-        [_, ..] => positive_of(alloc, text),
-        [] => positive_of(alloc, text),
-    }
+    four_bytes(alloc, signed_number_of(text, LONGS / 2))
 }
 
-// Reads decimal digits as a negative number of four bytes in two's complement.
-fn negative_of(alloc: Global, digits: &[u8]) -> Result<Option<Bytes>, AllocError>
-    ensures { IfOk result (λ value. value
-        ≡ option_map negative_bytes (based_number 10 (2 ^ 31 + 1) digits.now)) }
+// Returns a number as a value of one byte.
+fn one_byte(alloc: Global, number: Option<u64>) -> Result<Option<Bytes>, AllocError>
+    requires { IfSome number (λ n. n < 2 ^ 8) }
+    ensures { IfOk result (λ value. value ≡ option_map (λ n. n ∷ []) number) }
 {
-    match number_of_digits(10, digits, LONGS / 2 + 1) {
-        Some(number) => some_bytes(alloc, &(((LONGS - number) % LONGS) as u32).to_be_bytes()),
+    match number {
+        Some(number) => some_bytes(alloc, &[number as u8]),
         None => Ok(None),
     }
 }
 
-// Reads a number of four bytes in two's complement that is not negative.
-fn positive_of(alloc: Global, text: &[u8]) -> Result<Option<Bytes>, AllocError>
-    ensures { IfOk result (λ value. value
-        ≡ option_map (to_be_bytes w32) (number_below (2 ^ 31) text.now)) }
+// Returns a number as a value of two bytes, the highest first.
+fn two_bytes(alloc: Global, number: Option<u64>) -> Result<Option<Bytes>, AllocError>
+    requires { IfSome number (λ n. n < 2 ^ 16) }
+    ensures { IfOk result (λ value. value ≡ option_map (to_be_bytes w16) number) }
 {
-    match number_of(text, LONGS / 2) {
+    match number {
+        Some(number) => some_bytes(alloc, &(number as u16).to_be_bytes()),
+        None => Ok(None),
+    }
+}
+
+// Returns a number as a value of four bytes, the highest first.
+fn four_bytes(alloc: Global, number: Option<u64>) -> Result<Option<Bytes>, AllocError>
+    requires { IfSome number (λ n. n < 2 ^ 32) }
+    ensures { IfOk result (λ value. value ≡ option_map (to_be_bytes w32) number) }
+{
+    match number {
         Some(number) => some_bytes(alloc, &(number as u32).to_be_bytes()),
         None => Ok(None),
+    }
+}
+
+// Returns the number from -half up to half - 1 that a text gives, in two's complement, where there
+// are twice half numbers.
+fn signed_number_of(text: &[u8], half: u64) -> Option<u64>
+    requires low { 0 < half }
+    requires high { half ≤ 2 ^ 31 }
+    ensures spelled { result ≡ signed_number half text.now }
+    ensures below { IfSome result (λ number. number < 2 * half) }
+{
+    match text {
+        [b'-', digits @ ..] => {
+            let number = number_of_digits(10, digits, half + 1)?;
+            Some((2 * half - number) % (2 * half))
+        }
+        [_, ..] => number_of(text, half),
+        [] => number_of(text, half),
     }
 }
 

@@ -16,8 +16,9 @@ pub(crate) fn some_bytes(alloc: Global, bytes: &[u8]) -> Result<Option<Bytes>, A
     Ok(Some(Bytes::own(Vec::from_slice(alloc, bytes)?)))
 }
 
-// Returns a text without the blanks before it and behind it.
-pub(crate) fn trim(text: &[u8]) -> &[u8]
+/// Returns a text without the blanks (spaces, tabs, line feeds and carriage returns) before it and
+/// behind it, which do not count around a value.
+pub fn trim(text: &[u8]) -> &[u8]
     ensures { result.now ≡ trimmed text.now }
 {
     without_last_blanks(without_first_blanks(text))
@@ -58,9 +59,9 @@ fn is_blank(b: u8) -> bool
     b == b' ' || b == b'\t' || b == b'\r' || b == b'\n'
 }
 
-// Splits a text at the first occurrence of a byte, if it has one: what precedes it, and what
-// follows it.
-pub(crate) fn first_part(byte: u8, text: &[u8]) -> (&[u8], Option<&[u8]>)
+/// Splits a text at the first occurrence of a byte, if it has one: what precedes it, and what
+/// follows it.
+pub fn first_part(byte: u8, text: &[u8]) -> (&[u8], Option<&[u8]>)
     ensures parts { MatchOption result.1 (slice_split (is_byte byte) text.now ≡ result.0.now ∷ [])
         (λ rest. slice_split (is_byte byte) text.now
         ≡ result.0.now ∷ slice_split (is_byte byte) rest.now) }

@@ -110,7 +110,7 @@ fn one_of(alloc: Global, kind: Kind, text: &[u8]) -> Result<Option<Bytes>, Alloc
 }
 
 // Reads an address.
-fn address_of(alloc: Global, text: &[u8]) -> Result<Option<Bytes>, AllocError>
+pub(crate) fn address_of(alloc: Global, text: &[u8]) -> Result<Option<Bytes>, AllocError>
     ensures { IfOk result (λ value. value ≡ address_read text.now) }
 {
     match read_address(text) {
