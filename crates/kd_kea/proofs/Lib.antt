@@ -7,6 +7,12 @@ pub mod Blanked
 pub mod Already
 pub mod Rows
 pub mod Tests
+pub mod Inside
+pub mod Fields
+pub mod Scopes
 pub mod Sounds
 pub mod SoundKea
 pub mod Whole
+pub mod Noted
+pub mod NoUnknown
+pub mod WorkedNotes

@@ -1,8 +1,9 @@
 -- What a text of Kea's describes obeys what all settings obey, object by object.
-use Rattle.std.proofs.Common.{◌≡◌, ℕ, true, false, List, codes, Option, Some, subst}
+use Rattle.std.proofs.Common.{◌≡◌, ℕ, true, false, List, ◌++◌, codes, Option, Some, subst}
 use Rattle.std.specs.Prelude.{option_and_then}
 use Rattle.kd_config.proofs.Tests.{some_is}
-use Rattle.kd_config.specs.Sound.{IsIdentity, IsPool, IsSubnet}
+use Rattle.kd_classes.specs.declared.option_list.OptionData.{OptionData}
+use Rattle.kd_config.specs.Sound.{AreOptions, IsIdentity, IsPool, IsSubnet}
 use Rattle.kd_config.specs.declared.pool.Pool.{Pool}
 use Rattle.kd_config.specs.declared.reservation.Reservation.{Reservation}
 use Rattle.kd_config.specs.declared.subnet.Subnet.{Subnet}
@@ -19,7 +20,8 @@ use Rattle.kd_json.specs.Values.{address_given, text_if_given}
 use Rattle.kd_json.specs.declared.objects.class.ClassEntry.{ClassEntry}
 use Rattle.kd_json.specs.declared.objects.settings.Settings.{Settings}
 use Rattle.kd_kea.proofs.Sounds.{all_sound, options_sound, server_sound, times_sound}
-use Rattle.kd_kea.specs.Class.{kea_class}
+use Rattle.kd_kea.specs.Class.{kea_class_options, kea_class}
+use Rattle.kd_kea.specs.Definitions.{kea_definitions, kea_known}
 use Rattle.kd_kea.specs.Kea.{kea_settings}
 use Rattle.kd_kea.specs.Keys.{keys_are_read}
 use Rattle.kd_kea.specs.Options.{kea_options, server_address}
@@ -27,25 +29,26 @@ use Rattle.kd_kea.specs.Plain.{plain}
 use Rattle.kd_kea.specs.Pool.{kea_pool}
 use Rattle.kd_kea.specs.Reservation.{kea_reservation}
 use Rattle.kd_kea.specs.Settings.{has_server_form, kea_dhcp4, kea_root, kea_settings_with}
-use Rattle.kd_kea.specs.Subnet.{has_subnet_form, is_at_server, kea_subnet, kea_subnet_with}
+use Rattle.kd_kea.specs.Subnet.{stand_beside, has_subnet_form, is_at_server, kea_subnet, kea_subnet_with}
 use Rattle.kd_kea.specs.Tables.{class_keys, host_keys, pool_keys, root_keys}
 use Rattle.kd_kea.specs.Times.{has_usual_shares, kea_times}
-use Rattle.kd_kea.specs.Values.{flag_given, is_whole_if_given}
+use Rattle.kd_kea.specs.Values.{flag_given, flag_or, is_whole_if_given}
+use Rattle.kd_kea.specs.declared.objects.definition.Definition.{Definition}
 use Rattle.kd_kea.specs.declared.objects.subnet.Above.{Above}
 use Rattle.kd_wire.specs.Steps.{◌>>=◌}
 use Rattle.serde_json.specs.Data.{Data}
 use Rattle.serde_json.specs.Find.{get}
 
-pool_sound : (d : Data) (pool : Pool) → kea_pool d ≡ Some pool → IsPool pool
+pool_sound : (known : List Definition) (d : Data) (pool : Pool) → kea_pool known d ≡ Some pool → IsPool pool
 unfolding kea_pool
-pool_sound d pool e =
+pool_sound known d pool e =
     let keys = passed (keys_are_read pool_keys d) _ pool e in
     let range = came_from (option_and_then pool_range (get (codes "pool") d)) _ pool keys.1 in
-    let options = came_from (kea_options false (get (codes "option-data") d)) _ pool range.gives in
+    let options = came_from (kea_options false known (get (codes "option-data") d)) _ pool range.gives in
     let value = came_from (get (codes "pool") d) pool_range range.first range.is in
     subst IsPool (some_is _ pool options.gives) (record {
       range = range_in_sound value.first range.first value.gives;
-      options = options_sound (get (codes "option-data") d) options.first options.is;
+      options = options_sound known (get (codes "option-data") d) options.first options.is;
     })
 
 reservation_sound : (d : Data) (reservation : Reservation) → kea_reservation d ≡ Some reservation → IsIdentity reservation.identity
@@ -58,37 +61,45 @@ reservation_sound d reservation e =
     let address = came_from (option_and_then address_given (get (codes "ip-address") d)) _ reservation identity.gives in
     subst (λ (r : Reservation). IsIdentity r.identity) (some_is _ reservation address.gives) (given_sound d identity.first identity.is)
 
-subnet_sound : (above : Above) (d : Data) (subnet : Subnet) → kea_subnet above d ≡ Some subnet → IsSubnet subnet
+subnet_sound : (above : Above) (known : List Definition) (d : Data) (subnet : Subnet) → kea_subnet above known d ≡ Some subnet → IsSubnet subnet
 unfolding kea_subnet kea_subnet_with
-subnet_sound above d subnet e =
+subnet_sound above known d subnet e =
     let form = came_from (has_subnet_form above d) _ subnet e in
     let prefix = came_from (option_and_then subnet_prefix (get (codes "subnet") d)) _ subnet form.gives in
     let here = passed (is_at_server above.server prefix.first (get (codes "interface") d)) _ subnet prefix.gives in
     let class = came_from (text_if_given (get (codes "client-class") d)) _ subnet here.1 in
-    let pools = came_from (list_of 64 kea_pool (get (codes "pools") d)) _ subnet class.gives in
+    let outside = came_from (flag_or above.outside (get (codes "reservations-out-of-pool") d)) _ subnet class.gives in
+    let pools = came_from (list_of 64 (kea_pool known) (get (codes "pools") d)) _ subnet outside.gives in
     let reservations = came_from (list_of 4096 kea_reservation (get (codes "reservations") d)) _ subnet pools.gives in
-    let options = came_from (kea_options false (get (codes "option-data") d)) _ subnet reservations.gives in
+    let beside = passed (stand_beside outside.first pools.first reservations.first) _ subnet reservations.gives in
+    let options = came_from (kea_options false known (get (codes "option-data") d)) _ subnet beside.1 in
     let value = came_from (get (codes "subnet") d) subnet_prefix prefix.first prefix.is in
     subst IsSubnet (some_is _ subnet options.gives) (record {
       prefix = prefix_in_sound value.first prefix.first value.gives;
-      few_pools = few_meant 64 kea_pool (get (codes "pools") d) pools.first pools.is;
-      pools = each_meant IsPool kea_pool pool_sound 64 (get (codes "pools") d) pools.first pools.is;
+      few_pools = few_meant 64 (kea_pool known) (get (codes "pools") d) pools.first pools.is;
+      pools = each_meant IsPool (kea_pool known) (pool_sound known) 64 (get (codes "pools") d) pools.first pools.is;
       few_reservations = few_meant 4096 kea_reservation (get (codes "reservations") d) reservations.first reservations.is;
       reservations = each_meant (λ (r : Reservation). IsIdentity r.identity) kea_reservation reservation_sound 4096 (get (codes "reservations") d) reservations.first reservations.is;
-      options = options_sound (get (codes "option-data") d) options.first options.is;
+      options = options_sound known (get (codes "option-data") d) options.first options.is;
     })
 
-entry_sound : (d : Data) (entry : ClassEntry) → kea_class d ≡ Some entry → IsEntry entry
+class_options_sound : (known : List Definition) (d : Data) (options : List OptionData) → kea_class_options known d ≡ Some options → AreOptions options
+unfolding kea_class_options
+class_options_sound known d options e =
+    let own = came_from (kea_definitions true (get (codes "option-def") d)) _ options e in
+    options_sound (own.first ++ known) (get (codes "option-data") d) options own.gives
+
+entry_sound : (known : List Definition) (d : Data) (entry : ClassEntry) → kea_class known d ≡ Some entry → IsEntry entry
 unfolding kea_class
-entry_sound d entry e =
+entry_sound known d entry e =
     let keys = passed (keys_are_read class_keys d) _ entry e in
     let name = came_from (option_and_then class_name_in (get (codes "name") d)) _ entry keys.1 in
     let text = came_from (text_if_given (get (codes "test") d)) _ entry name.gives in
-    let options = came_from (kea_options false (get (codes "option-data") d)) _ entry text.gives in
+    let options = came_from (kea_class_options known d) _ entry text.gives in
     let value = came_from (get (codes "name") d) class_name_in name.first name.is in
     subst IsEntry (some_is _ entry options.gives) (record {
       name = name_sound value.first name.first value.gives;
-      options = options_sound (get (codes "option-data") d) options.first options.is;
+      options = class_options_sound known d options.first options.is;
     })
 
 dhcp4_sound : (server : Option ℕ) (d : Data) (s : Settings) → kea_dhcp4 server d ≡ Some s → AreSettings s
@@ -98,18 +109,20 @@ dhcp4_sound server d s e =
     let calculated = came_from (flag_given (get (codes "calculate-tee-times") d)) _ s form.gives in
     let shares = passed (has_usual_shares calculated.first d) _ s calculated.gives in
     let times = came_from (kea_times calculated.first d) _ s shares.1 in
-    let options = came_from (kea_options true (get (codes "option-data") d)) _ s times.gives in
+    let outside = came_from (flag_given (get (codes "reservations-out-of-pool") d)) _ s times.gives in
+    let known = came_from (kea_known (get (codes "option-def") d)) _ s outside.gives in
+    let options = came_from (kea_options true known.first (get (codes "option-data") d)) _ s known.gives in
     let address = came_from (server_address options.first server) _ s options.gives in
-    let above : Above = record { server = address.first; times = times.first; calculated = calculated.first } in
-    let classes = came_from (list_of 256 kea_class (get (codes "client-classes") d)) _ s address.gives in
-    let subnets = came_from (list_of 256 (kea_subnet above) (get (codes "subnet4") d)) _ s classes.gives in
+    let above : Above = record { server = address.first; times = times.first; calculated = calculated.first; outside = outside.first } in
+    let classes = came_from (list_of 256 (kea_class known.first) (get (codes "client-classes") d)) _ s address.gives in
+    let subnets = came_from (list_of 256 (kea_subnet above known.first) (get (codes "subnet4") d)) _ s classes.gives in
     subst AreSettings (some_is _ s subnets.gives) (record {
       server = server_sound options.first server address.first address.is;
       times = times_sound calculated.first d times.first times.is;
-      options = all_sound (get (codes "option-data") d) options.first options.is;
-      classes = each_meant IsEntry kea_class entry_sound 256 (get (codes "client-classes") d) classes.first classes.is;
-      few = few_meant 256 (kea_subnet above) (get (codes "subnet4") d) subnets.first subnets.is;
-      subnets = each_meant IsSubnet (kea_subnet above) (subnet_sound above) 256 (get (codes "subnet4") d) subnets.first subnets.is;
+      options = all_sound known.first (get (codes "option-data") d) options.first options.is;
+      classes = each_meant IsEntry (kea_class known.first) (entry_sound known.first) 256 (get (codes "client-classes") d) classes.first classes.is;
+      few = few_meant 256 (kea_subnet above known.first) (get (codes "subnet4") d) subnets.first subnets.is;
+      subnets = each_meant IsSubnet (kea_subnet above known.first) (subnet_sound above known.first) 256 (get (codes "subnet4") d) subnets.first subnets.is;
     })
 
 root_sound : (server : Option ℕ) (d : Data) (s : Settings) → kea_root server d ≡ Some s → AreSettings s

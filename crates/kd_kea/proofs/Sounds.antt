@@ -1,8 +1,10 @@
 -- The values of Kea's objects obey what every configuration obeys.
 use Rattle.std.proofs.Common.{◌≡◌, ℕ, ◌≤◌, Bool, true, false, not, cond, ◌&&◌, nat_le, nat_eq, ◌==◌, List, [], ◌∷◌, length, codes, Option, Some, None, refl, subst, ap, ◌∙◌, arith, if◌then◌else◌}
-use Rattle.std.specs.Prelude.{◌||◌, is_some, option_map}
+use Rattle.std.specs.Prelude.{◌||◌, map, option_map}
+use Rattle.std.proofs.lemmas.List.{length-map}
+use Rattle.std.proofs.lemmas.Slice.Eq.{bytes_eq-Decides}
 use Rattle.std.specs.Int.{from_be_bytes, w32}
-use Rattle.std.specs.List.{AllByRecursion, find, list_any}
+use Rattle.std.specs.List.{AllByRecursion, filter, find, list_all, list_any}
 use borrow.Author.Tests.{leb-true}
 use Rattle.kd_classes.specs.declared.option_list.OptionData.{OptionData}
 use Rattle.kd_config.proofs.Tests.{both_passed, not_and, or_false, some_is}
@@ -11,20 +13,20 @@ use Rattle.kd_config.specs.Sound.{AreOptions, AreTimes, HaveOwnCodes, IsFrom, Is
 use Rattle.kd_config.specs.declared.times.Times.{Times}
 use Rattle.kd_json.proofs.Came.{came_from, each_meant, few_meant, passed, passed_only}
 use Rattle.kd_json.proofs.SoundSettings.{some_server}
-use Rattle.kd_json.proofs.Sounds.{bytes_sound, number_or_sound}
+use Rattle.kd_json.proofs.Sounds.{number_or_sound}
 use Rattle.kd_json.specs.Lists.{list_of}
 use Rattle.kd_json.specs.Values.{number_if_given, text_if_given}
-use Rattle.kd_kea.specs.Keys.{keys_are_read, word}
-use Rattle.kd_kea.specs.OptionValue.{is_hexadecimal, data_as_text, data_by, data_given, hex_data, is_text_given, text_data, text_kind}
-use Rattle.kd_names.specs.Table.{kind_by_code}
-use Rattle.kd_names.specs.declared.kind.Kind.{Kind}
-use Rattle.kd_values.specs.Spelled.{data_spelled}
-use Rattle.kd_kea.specs.Options.{address_by, address_in_bytes, codes_differ, is_server_option, code_if_given, code_named, kea_code, kea_option, kea_options, one_code, may_configure, sent_to_all, server_address, server_code, some_address}
+use Rattle.kd_kea.specs.Definitions.{defined_at, is_dhcp4}
+use Rattle.kd_kea.specs.Keys.{keys_are_read}
+use Rattle.kd_kea.specs.OptionValue.{data_by, has_type, is_text_given, standard_type, text_kind}
+use Rattle.kd_kea.specs.Options.{address_by, address_in_bytes, code_if_given, code_named, entries_differ, entry_by, fits_in_option, has_known_type, inner_space, is_entry, is_of_message, is_served_space, is_server_option, is_short, kea_code, kea_entry, kea_options, may_configure, may_hold, may_stand_in, one_code, option_with, options_by, sent_to_all, server_address, server_code, some_address}
+use Rattle.kd_kea.specs.declared.objects.definition.Definition.{Definition}
+use Rattle.kd_kea.specs.declared.objects.entry.OptionEntry.{OptionEntry}
 use Rattle.kd_kea.specs.Tables.{data_keys}
 use Rattle.kd_kea.specs.Times.{has_one_lifetime, kea_times, offer_time, usual_rebind, usual_renew}
-use Rattle.kd_kea.specs.Values.{has_whole_bytes, is_whole_if_given, is_plain_if_given}
+use Rattle.kd_kea.specs.Values.{text_otherwise}
 use Rattle.serde_json.specs.Data.{Data}
-use Rattle.serde_json.specs.Find.{as_str, get}
+use Rattle.serde_json.specs.Find.{get}
 
 -- ---- times
 
@@ -55,10 +57,9 @@ times_sound calculated d t e =
 
 -- ---- options
 
--- an option of the whole server or a part of it
-record IsKeaOption (for_all : Bool) (option : OptionData) : Type 0 where
-  may : may_configure for_all option.code ≡ true
-  value : length option.value ≤ 1024
+-- an entry of the whole server or a part of it
+record IsKeaEntry (for_all : Bool) (entry : OptionEntry) : Type 0 where
+  may : is_of_message entry ≡ true → may_configure for_all entry.code ≡ true
 
 -- an option that may be configured: its code is in range, and one of two tests is passed
 code_range : (for_all : Bool) (code : ℕ) → may_configure for_all code ≡ true
@@ -68,52 +69,38 @@ code_range for_all code e =
     let both = both_passed (nat_le 1 code) (nat_le code 254) all.0 in
     (record { above = leb-true 1 code both.0; below = leb-true code 254 both.1 }, all.1)
 
-hex_sound : (value : Option Data) (bytes : List ℕ) → hex_data value ≡ Some bytes → length bytes ≤ 1024
-hex_sound None bytes e = subst (λ (bs : List ℕ). length bs ≤ 1024) (some_is [] bytes e) (omega arith)
-hex_sound (Some d) bytes e = (bytes_sound 0 1024 d bytes (passed (is_whole_if_given (Some d)) _ bytes e).1).below
-
-spelled_sound : (kind : Kind) (d : Data) (bytes : List ℕ) → text_data kind d ≡ Some bytes → length bytes ≤ 1024
-unfolding text_data
-spelled_sound kind d bytes e =
-    let text = came_from (as_str d) _ bytes e in
-    let whole = passed (not (is_hexadecimal kind) || has_whole_bytes text.first) _ bytes text.gives in
-    let value = came_from (data_spelled kind text.first) _ bytes whole.1 in
-    let test = passed_only (nat_le (length value.first) 1024) value.first bytes value.gives in
-    subst (λ (bs : List ℕ). length bs ≤ 1024) test.1 (leb-true (length value.first) 1024 test.0)
-
-text_sound : (kind : Option Kind) (value : Option Data) (bytes : List ℕ) → data_as_text kind value ≡ Some bytes → length bytes ≤ 1024
-text_sound None value bytes e = absurd (cc)
-text_sound (Some kind) None bytes e = absurd (cc)
-text_sound (Some kind) (Some d) bytes e = spelled_sound kind d bytes e
-
-either_sound : (is_text : Bool) (kind : Option Kind) (value : Option Data) (bytes : List ℕ) → data_by is_text kind value ≡ Some bytes → length bytes ≤ 1024
-either_sound true kind value bytes e = text_sound kind value bytes e
-either_sound false kind value bytes e = hex_sound value bytes e
-
-data_sound : (code : ℕ) (d : Data) (bytes : List ℕ) → data_given code d ≡ Some bytes → length bytes ≤ 1024
-unfolding data_given
-data_sound code d bytes e =
-    let text = came_from (is_text_given (is_some (kind_by_code code)) (get (codes "csv-format") d)) _ bytes e in
-    either_sound text.first (text_kind code) (get (codes "data") d) bytes text.gives
-
-code_sound : (for_all : Bool) (d : Data) (code : ℕ) → kea_code for_all d ≡ Some code → may_configure for_all code ≡ true
+code_sound : (for_all : Bool) (known : List Definition) (space : List ℕ) (d : Data) (code : ℕ) → kea_code for_all known space d ≡ Some code → may_stand_in for_all space code ≡ true
 unfolding kea_code
-code_sound for_all d code e =
+code_sound for_all known space d code e =
     let given = came_from (code_if_given (get (codes "code") d)) _ code e in
     let name = came_from (text_if_given (get (codes "name") d)) _ code given.gives in
-    let one = came_from (one_code given.first (option_map code_named name.first)) _ code name.gives in
-    let test = passed_only (may_configure for_all one.first) one.first code one.gives in
-    subst (λ (c : ℕ). may_configure for_all c ≡ true) test.1 test.0
+    let one = came_from (one_code (has_known_type known space) given.first (option_map (code_named known space) name.first)) _ code name.gives in
+    let test = passed_only (may_stand_in for_all space one.first) one.first code one.gives in
+    subst (λ (c : ℕ). may_stand_in for_all space c ≡ true) test.1 test.0
 
-option_sound : (for_all : Bool) (d : Data) (option : OptionData) → kea_option for_all d ≡ Some option → IsKeaOption for_all option
-unfolding kea_option
-option_sound for_all d option e =
-    let keys = passed (keys_are_read data_keys d) _ option e in
-    let space = passed (is_plain_if_given (word (codes "dhcp4")) (get (codes "space") d)) _ option keys.1 in
-    let code = came_from (kea_code for_all d) _ option space.1 in
-    let value = came_from (data_given code.first d) _ option code.gives in
-    subst (IsKeaOption for_all) (some_is _ option value.gives)
-    (record { may = code_sound for_all d code.first code.is; value = data_sound code.first d value.first value.is })
+-- one of two is passed, and the first is not
+other_passed : (a b : Bool) → (not a || b) ≡ true → a ≡ true → b ≡ true
+other_passed true b e f = e
+other_passed false b e f = absurd (cc)
+
+given_entry_sound : (for_all : Bool) (it : Option Definition) (space : List ℕ) (code : ℕ) (d : Data) (entry : OptionEntry) → may_stand_in for_all space code ≡ true → entry_by it space code d ≡ Some entry → IsKeaEntry for_all entry
+unfolding entry_by
+given_entry_sound for_all it space code d entry may e =
+    let text = came_from (is_text_given (has_type it (standard_type space code)) (get (codes "csv-format") d)) _ entry e in
+    let value = came_from (data_by text.first it (text_kind space code) (get (codes "data") d)) _ entry text.gives in
+    let made : OptionEntry = record { space = space; code = code; value = value.first; inner = inner_space it; is_text = text.first } in
+    let test = passed_only (fits_in_option space value.first) made entry value.gives in
+    subst (IsKeaEntry for_all) test.1 (record { may = other_passed (is_dhcp4 space) (may_configure for_all code) may })
+
+entry_sound : (for_all : Bool) (known : List Definition) (d : Data) (entry : OptionEntry) → kea_entry for_all known d ≡ Some entry → IsKeaEntry for_all entry
+unfolding kea_entry
+entry_sound for_all known d entry e =
+    let keys = passed (keys_are_read data_keys d) _ entry e in
+    let space = came_from (text_otherwise (codes "dhcp4") (get (codes "space") d)) _ entry keys.1 in
+    let served = passed (is_served_space space.first) _ entry space.gives in
+    let code = came_from (kea_code for_all known space.first d) _ entry served.1 in
+    given_entry_sound for_all (defined_at known space.first code.first) space.first code.first d entry
+    (code_sound for_all known space.first d code.first code.is) code.gives
 
 -- not allowed as the server's, so not one that the server generates itself
 free : (x own : Bool) → (x || not own) ≡ true → x ≡ false → own ≡ false
@@ -121,30 +108,100 @@ free true own e f = absurd (cc)
 free false true e f = absurd (cc)
 free false false e f = refl
 
+-- an option of the whole server or a part of it
+record IsKeaOption (for_all : Bool) (option : OptionData) : Type 0 where
+  may : may_configure for_all option.code ≡ true
+  value : length option.value ≤ 1024
+
 part_sound : (option : OptionData) → IsKeaOption false option → IsOption option
 part_sound option h =
     let range = code_range false option.code h.may in
     record { code = range.0; free = free false (list_any (nat_eq option.code) own_codes) range.1 refl; value = h.value }
 
+-- the options of these entries, which stand among all
+abbrev options_from : List OptionEntry → List OptionEntry → List OptionData
+options_from all entries = map (option_with all) (filter is_of_message entries)
+
+options_more : (for_all b : Bool) (all : List OptionEntry) (entry : OptionEntry) (rest : List OptionEntry) → (b ≡ true → may_configure for_all entry.code ≡ true)
+    → (list_all is_short (map (option_with all) rest) ≡ true → AllByRecursion (IsKeaOption for_all) (map (option_with all) rest))
+    → list_all is_short (map (option_with all) (cond b (entry ∷ rest) rest)) ≡ true → AllByRecursion (IsKeaOption for_all) (map (option_with all) (cond b (entry ∷ rest) rest))
+options_more for_all true all entry rest may k short =
+    let both = both_passed (is_short (option_with all entry)) (list_all is_short (map (option_with all) rest)) short in
+    (record { may = may refl; value = leb-true (length (option_with all entry).value) 1024 both.0 }, k both.1)
+options_more for_all false all entry rest may k short = k short
+
+each_option : (for_all : Bool) (all entries : List OptionEntry) → AllByRecursion (IsKeaEntry for_all) entries → list_all is_short (options_from all entries) ≡ true → AllByRecursion (IsKeaOption for_all) (options_from all entries)
+each_option for_all all [] h short = tt
+each_option for_all all (entry ∷ entries) h short =
+    options_more for_all (is_of_message entry) all entry (filter is_of_message entries) h.0.may (each_option for_all all entries h.1) short
+
 parts_sound : (options : List OptionData) → AllByRecursion (IsKeaOption false) options → AllByRecursion IsOption options
 parts_sound [] h = tt
 parts_sound (o ∷ options) h = (part_sound o h.0, parts_sound options h.1)
 
-own_sound : (options : List OptionData) → codes_differ options ≡ true → HaveOwnCodes options
-own_sound [] e = tt
-own_sound (o ∷ options) e =
-    let h = not_and (code_among o.code options) (codes_differ options) e in (h.0, own_sound options h.1)
+few_from : (b : Bool) (entry : OptionEntry) (rest entries : List OptionEntry) → length rest ≤ length entries → length (cond b (entry ∷ rest) rest) ≤ length (entry ∷ entries)
+few_from true entry rest entries h = omega (arith, h)
+few_from false entry rest entries h = omega (arith, h)
 
-pub options_sound : (value : Option Data) (options : List OptionData) → kea_options false value ≡ Some options → AreOptions options
+few_options : (all entries : List OptionEntry) → length (options_from all entries) ≤ length entries
+few_options all entries = rw (length-map (filter is_of_message entries) (option_with all)) (by entries) where
+  by : (es : List OptionEntry) → length (filter is_of_message es) ≤ length es
+  by [] = omega arith
+  by (entry ∷ es) = few_from (is_of_message entry) entry (filter is_of_message es) es (by es)
+
+apart_more : (b : Bool) (code : ℕ) (all : List OptionEntry) (entry : OptionEntry) (rest : List OptionEntry) → (b && (entry.code == code)) ≡ false → code_among code (map (option_with all) rest) ≡ false
+    → code_among code (map (option_with all) (cond b (entry ∷ rest) rest)) ≡ false
+apart_more true code all entry rest h k = ap (λ (x : Bool). x || code_among code (map (option_with all) rest)) h ∙ k
+apart_more false code all entry rest h k = k
+
+codes_apart : (code : ℕ) (all entries : List OptionEntry) → list_any (is_entry (codes "dhcp4") code) entries ≡ false → code_among code (options_from all entries) ≡ false
+codes_apart code all [] e = refl
+codes_apart code all (entry ∷ entries) e =
+    let h = or_false (is_entry (codes "dhcp4") code entry) (list_any (is_entry (codes "dhcp4") code) entries) e in
+    apart_more (is_of_message entry) code all entry (filter is_of_message entries) h.0 (codes_apart code all entries h.1)
+
+own_from : (b : Bool) (all : List OptionEntry) (entry : OptionEntry) (rest : List OptionEntry) → (b ≡ true → code_among entry.code (map (option_with all) rest) ≡ false) → HaveOwnCodes (map (option_with all) rest)
+    → HaveOwnCodes (map (option_with all) (cond b (entry ∷ rest) rest))
+own_from true all entry rest h k = (h refl, k)
+own_from false all entry rest h k = k
+
+-- the space of an option of a message
+message_space : (space : List ℕ) → is_dhcp4 space ≡ true → space ≡ codes "dhcp4"
+message_space space e = (bytes_eq-Decides space (codes "dhcp4")).0 e
+
+own_sound : (all entries : List OptionEntry) → entries_differ entries ≡ true → HaveOwnCodes (options_from all entries)
+own_sound all [] e = tt
+own_sound all (entry ∷ entries) e =
+    let h = not_and (list_any (is_entry entry.space entry.code) entries) (entries_differ entries) e in
+    own_from (is_of_message entry) all entry (filter is_of_message entries)
+    (λ (m : is_of_message entry ≡ true). codes_apart entry.code all entries
+    (subst (λ (space : List ℕ). list_any (is_entry space entry.code) entries ≡ false) (message_space entry.space m) h.0))
+    (own_sound all entries h.1)
+
+-- what the options of a list obey
+record AreKeaOptions (for_all : Bool) (options : List OptionData) : Type 0 where
+  few : length options ≤ 64
+  each : AllByRecursion (IsKeaOption for_all) options
+  own : HaveOwnCodes options
+
+all_options : (for_all : Bool) (known : List Definition) (value : Option Data) (options : List OptionData) → kea_options for_all known value ≡ Some options → AreKeaOptions for_all options
 unfolding kea_options
-options_sound value options e =
-    let read = came_from (list_of 64 (kea_option false) value) _ options e in
-    let test = passed_only (codes_differ read.first) read.first options read.gives in
-    subst AreOptions test.1 (record {
-      few = few_meant 64 (kea_option false) value read.first read.is;
-      each = parts_sound read.first (each_meant (IsKeaOption false) (kea_option false) (option_sound false) 64 value read.first read.is);
-      own = own_sound read.first test.0;
+all_options for_all known value options e =
+    let read = came_from (list_of 64 (kea_entry for_all known) value) _ options e in
+    let differ = passed (entries_differ read.first) _ options read.gives in
+    let hold = passed (list_all (may_hold read.first) read.first) _ options differ.1 in
+    let short = passed_only (list_all is_short (options_by read.first)) (options_by read.first) options hold.1 in
+    let few = few_meant 64 (kea_entry for_all known) value read.first read.is in
+    subst (AreKeaOptions for_all) short.1 (record {
+      few = omega (arith, few, few_options read.first read.first);
+      each = each_option for_all read.first read.first (each_meant (IsKeaEntry for_all) (kea_entry for_all known) (entry_sound for_all known) 64 value read.first read.is) short.0;
+      own = own_sound read.first read.first differ.0;
     })
+
+pub options_sound : (known : List Definition) (value : Option Data) (options : List OptionData) → kea_options false known value ≡ Some options → AreOptions options
+options_sound known value options e =
+    let h = all_options false known value options e in
+    record { few = h.few; each = parts_sound options h.each; own = h.own }
 
 -- ---- the options of the whole server
 
@@ -191,17 +248,14 @@ others_sound (o ∷ options) h =
     (λ e. all_but_server o h.0 e)
     (others_sound options h.1)
 
-pub all_sound : (value : Option Data) (options : List OptionData) → kea_options true value ≡ Some options → AreOptions (sent_to_all options)
-unfolding kea_options
-all_sound value options e =
-    let read = came_from (list_of 64 (kea_option true) value) _ options e in
-    let test = passed_only (codes_differ read.first) read.first options read.gives in
-    let few = few_meant 64 (kea_option true) value read.first read.is in
-    subst (λ (os : List OptionData). AreOptions (sent_to_all os)) test.1 (record {
-      few = omega (arith, few, others_few read.first);
-      each = others_sound read.first (each_meant (IsKeaOption true) (kea_option true) (option_sound true) 64 value read.first read.is);
-      own = others_own read.first (own_sound read.first test.0);
-    })
+pub all_sound : (known : List Definition) (value : Option Data) (options : List OptionData) → kea_options true known value ≡ Some options → AreOptions (sent_to_all options)
+all_sound known value options e =
+    let h = all_options true known value options e in
+    record {
+      few = omega (arith, h.few, others_few options);
+      each = others_sound options h.each;
+      own = others_own options h.own;
+    }
 
 -- ---- the server's address
 

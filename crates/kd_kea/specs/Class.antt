@@ -1,17 +1,20 @@
 -- A client class in a configuration of Kea's: a name, a test, and options.
-use Rattle.std.specs.Prelude.{ℕ, false, List, codes, Option, Some, None}
+use Rattle.std.specs.Prelude.{ℕ, true, false, List, ◌++◌, codes, Option, Some, None}
 use Rattle.serde_json.specs.Data.{Data}
 use Rattle.serde_json.specs.Find.{get}
+use Rattle.kd_classes.specs.declared.option_list.OptionData.{OptionData}
 use Rattle.kd_json.specs.Class.{class_name_in}
 use Rattle.kd_json.specs.Steps.{must}
 use Rattle.kd_json.specs.Values.{text_if_given}
 use Rattle.kd_json.specs.declared.objects.class.ClassEntry.{ClassEntry}
 use Rattle.kd_json.specs.declared.objects.class.TestSource.{TestSource}
 use Rattle.kd_json.specs.declared.objects.class.TestSource.TheVariants.{Nothing, Expression}
+use Rattle.kd_kea.specs.Definitions.{kea_definitions}
 use Rattle.kd_kea.specs.Keys.{keys_are_read}
 use Rattle.kd_kea.specs.Options.{kea_options}
 use Rattle.kd_kea.specs.Tables.{class_keys}
 use Rattle.kd_kea.specs.Values.{unless_empty}
+use Rattle.kd_kea.specs.declared.objects.definition.Definition.{Definition}
 use Rattle.kd_wire.specs.Steps.{◌>>=◌}
 
 -- a text is a test, if there is one
@@ -19,11 +22,17 @@ abbrev pub source_by : Option (List ℕ) → TestSource
 source_by None = Nothing
 source_by (Some text) = Expression text
 
+-- the options of a class, by its own definitions before those of the whole server
+unfoldable pub kea_class_options : List Definition → Data → Option (List OptionData)
+kea_class_options known d = do
+  own ← kea_definitions true (get (codes "option-def") d)
+  kea_options false (own ++ known) (get (codes "option-data") d)
+
 -- the class that a value describes; an empty test is none
-unfoldable pub kea_class : Data → Option ClassEntry
-kea_class d = do
+unfoldable pub kea_class : List Definition → Data → Option ClassEntry
+kea_class known d = do
   _ ← must (keys_are_read class_keys d)
   name ← get (codes "name") d >>= class_name_in
   text ← text_if_given (get (codes "test") d)
-  options ← kea_options false (get (codes "option-data") d)
+  options ← kea_class_options known d
   Some (record { name = name; source = source_by (unless_empty text); options = options })

@@ -4,6 +4,7 @@ pub mod Output
 pub mod Keys
 pub mod Tables
 pub mod Values
+pub mod Definitions
 pub mod OptionValue
 pub mod Options
 pub mod Times
@@ -11,6 +12,9 @@ pub mod Class
 pub mod Pool
 pub mod Reservation
 pub mod Subnet
+pub mod Hooks
 pub mod Settings
 pub mod Kea
 pub mod Rows
+pub mod Scope
+pub mod Notes

@@ -1,25 +1,38 @@
--- The value of an option in a configuration of Kea's: text by the type of the option, or
--- hexadecimal.
-use Rattle.std.specs.Prelude.{ℕ, ◌==◌, Bool, true, false, not, ◌||◌, nat_le, List, [], length, codes, Option, Some, None, is_some, if◌then◌else◌}
+-- The value of an option in a configuration of Kea's: text by the types of its definition or by its
+-- standard type, or hexadecimal.
+use Rattle.std.specs.Prelude.{ℕ, ◌==◌, Bool, true, false, not, ◌||◌, nat_le, List, [], ◌∷◌, length, Option, Some, None, is_some, if◌then◌else◌}
 use Rattle.serde_json.specs.Data.{Data}
-use Rattle.serde_json.specs.Find.{as_bool, as_str, get}
+use Rattle.serde_json.specs.Find.{as_bool, as_str}
 use Rattle.kd_json.specs.Steps.{must, only_if}
 use Rattle.kd_json.specs.Values.{hex_bytes_in}
 use Rattle.kd_names.specs.Table.{kind_by_code}
 use Rattle.kd_names.specs.declared.kind.Kind.{Kind}
 use Rattle.kd_names.specs.declared.kind.Kind.TheVariants as kinds
+use Rattle.kd_values.specs.Fields.{fields_spelled}
 use Rattle.kd_values.specs.Spelled.{data_spelled}
-use Rattle.kd_kea.specs.Values.{has_whole_bytes, is_whole_if_given}
+use Rattle.kd_values.specs.declared.field_type.FieldType.{FieldType}
+use Rattle.kd_values.specs.declared.field_type.FieldType.TheVariants as types
+use Rattle.kd_kea.specs.Definitions.{is_dhcp4}
+use Rattle.kd_kea.specs.Values.{has_whole_bytes, is_whole_if_given, text_otherwise}
+use Rattle.kd_kea.specs.declared.objects.definition.Definition.{Definition}
 use Rattle.kd_wire.specs.Steps.{◌>>=◌}
 
--- the value of an option with this code consists of other options:
--- `vendor-encapsulated-options` and `vivso-suboptions`
-abbrev pub has_options_in_it : ℕ → Bool
-has_options_in_it code = code == 43 || code == 125
+-- the code of `vivso-suboptions`, whose value consists of the options of vendors (RFC 3925 section 4)
+abbrev pub vivso_code : ℕ
+vivso_code = 125
 
--- the type of an option whose value is written as text, if that can be read
-abbrev pub text_kind : ℕ → Option Kind
-text_kind code = if has_options_in_it code then None else kind_by_code code
+-- the standard type of the option of a space with a code
+abbrev pub standard_type : List ℕ → ℕ → Option Kind
+standard_type space code = if is_dhcp4 space then kind_by_code code else None
+
+-- the standard type by which text is read
+abbrev pub text_kind : List ℕ → ℕ → Option Kind
+text_kind space code = if code == vivso_code then None else standard_type space code
+
+-- an option has a type: it is defined, or a standard one
+abbrev pub has_type : Option Definition → Option Kind → Bool
+has_type (Some it) kind = true
+has_type None kind = is_some kind
 
 -- the data is text: as `csv-format` says, or else if this is usual
 abbrev pub is_text_given : Bool → Option Data → Option Bool
@@ -39,11 +52,30 @@ text_data kind d = do
   value ← data_spelled kind text
   only_if (nat_le (length value) 1024) value
 
--- the value that data gives as text of a type; no data gives no bytes
+-- the value that data gives as text of a standard type; no data gives no bytes
 abbrev pub data_as_text : Option Kind → Option Data → Option (List ℕ)
 data_as_text None value = None
 data_as_text (Some kind) None = None
 data_as_text (Some kind) (Some d) = text_data kind d
+
+-- fields are bytes alone, which are written in hexadecimal
+abbrev pub are_bytes : List FieldType → Bool
+are_bytes (types.Bytes ∷ fields) = true
+are_bytes fields = false
+
+-- the value that data gives as text for the fields of a definition; no data is an empty text
+unfoldable pub fields_data : Definition → Option Data → Option (List ℕ)
+fields_data it value = do
+  fields ← it.fields
+  text ← text_otherwise [] value
+  _ ← must (not (are_bytes fields) || has_whole_bytes text)
+  bytes ← fields_spelled fields it.repeats text
+  only_if (nat_le (length bytes) 1024) bytes
+
+-- the value that data gives as text
+abbrev pub typed_data : Option Definition → Option Kind → Option Data → Option (List ℕ)
+typed_data (Some it) kind value = fields_data it value
+typed_data None kind value = data_as_text kind value
 
 -- the value that data gives in hexadecimal; no data gives no bytes
 abbrev pub hex_data : Option Data → Option (List ℕ)
@@ -53,12 +85,6 @@ hex_data (Some d) = do
   hex_bytes_in 0 1024 d
 
 -- the value that data gives, in one way or the other
-abbrev pub data_by : Bool → Option Kind → Option Data → Option (List ℕ)
-data_by true kind value = data_as_text kind value
-data_by false kind value = hex_data value
-
--- the value of an option with this code
-unfoldable pub data_given : ℕ → Data → Option (List ℕ)
-data_given code d = do
-  is_text ← is_text_given (is_some (kind_by_code code)) (get (codes "csv-format") d)
-  data_by is_text (text_kind code) (get (codes "data") d)
+abbrev pub data_by : Bool → Option Definition → Option Kind → Option Data → Option (List ℕ)
+data_by true it kind value = typed_data it kind value
+data_by false it kind value = hex_data value

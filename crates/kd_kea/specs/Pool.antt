@@ -1,5 +1,5 @@
 -- A pool of a subnet in a configuration of Kea's.
-use Rattle.std.specs.Prelude.{false, codes, Option, Some}
+use Rattle.std.specs.Prelude.{false, List, codes, Option, Some}
 use Rattle.serde_json.specs.Data.{Data}
 use Rattle.serde_json.specs.Find.{get}
 use Rattle.kd_config.specs.declared.pool.Pool.{Pool}
@@ -8,12 +8,13 @@ use Rattle.kd_json.specs.Steps.{must}
 use Rattle.kd_kea.specs.Keys.{keys_are_read}
 use Rattle.kd_kea.specs.Options.{kea_options}
 use Rattle.kd_kea.specs.Tables.{pool_keys}
+use Rattle.kd_kea.specs.declared.objects.definition.Definition.{Definition}
 use Rattle.kd_wire.specs.Steps.{◌>>=◌}
 
--- the pool that a value describes
-unfoldable pub kea_pool : Data → Option Pool
-kea_pool d = do
+-- the pool that a value describes, with these definitions of options
+unfoldable pub kea_pool : List Definition → Data → Option Pool
+kea_pool known d = do
   _ ← must (keys_are_read pool_keys d)
   range ← get (codes "pool") d >>= pool_range
-  options ← kea_options false (get (codes "option-data") d)
+  options ← kea_options false known (get (codes "option-data") d)
   Some (record { range = range; options = options })

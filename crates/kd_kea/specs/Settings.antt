@@ -7,12 +7,15 @@ use Rattle.kd_json.specs.Lists.{list_of}
 use Rattle.kd_json.specs.Steps.{must}
 use Rattle.kd_json.specs.declared.objects.settings.Settings.{Settings}
 use Rattle.kd_kea.specs.Class.{kea_class}
+use Rattle.kd_kea.specs.Definitions.{kea_known}
+use Rattle.kd_kea.specs.Hooks.{hooks_are_quiet}
 use Rattle.kd_kea.specs.Keys.{Plain, flag, keys_are_read, no_list, word}
 use Rattle.kd_kea.specs.Options.{kea_options, sent_to_all, server_address}
 use Rattle.kd_kea.specs.Subnet.{kea_subnet}
 use Rattle.kd_kea.specs.Tables.{root_keys, server_keys}
 use Rattle.kd_kea.specs.Times.{has_usual_shares, kea_times}
 use Rattle.kd_kea.specs.Values.{flag_given, has_plain, is_plain_if_given}
+use Rattle.kd_kea.specs.declared.objects.definition.Definition.{Definition}
 use Rattle.kd_kea.specs.declared.objects.subnet.Above.{Above}
 use Rattle.kd_wire.specs.Steps.{◌>>=◌}
 
@@ -29,21 +32,22 @@ finds_reservations (Some (array names)) =
     has_plain (word (codes "hw-address")) names && has_plain (word (codes "client-id")) names
 finds_reservations (Some d) = false
 
--- a value has the keys of `Dhcp4`: no names are updated, and nothing of the configuration is in a
--- database
+-- a value has the keys of `Dhcp4`: no names are updated, nothing of the configuration is in a
+-- database, and no hook changes anything for clients
 unfoldable pub has_server_form : Data → Option (Unit {0})
 has_server_form d = do
   _ ← must (keys_are_read server_keys d)
   _ ← must (turns_nothing_on (codes "enable-updates") (flag false) (get (codes "dhcp-ddns") d))
   _ ← must (turns_nothing_on (codes "config-databases") no_list (get (codes "config-control") d))
-  must (finds_reservations (get (codes "host-reservation-identifiers") d))
+  _ ← must (finds_reservations (get (codes "host-reservation-identifiers") d))
+  must (hooks_are_quiet (get (codes "hooks-libraries") d))
 
 -- the settings of options and what holds for the whole server, with the lists in the value of
--- `Dhcp4`
-unfoldable pub kea_settings_with : List OptionData → Above → Data → Option Settings
-kea_settings_with options above d = do
-  classes ← list_of 256 kea_class (get (codes "client-classes") d)
-  subnets ← list_of 256 (kea_subnet above) (get (codes "subnet4") d)
+-- `Dhcp4`, by these definitions of options
+unfoldable pub kea_settings_with : List Definition → List OptionData → Above → Data → Option Settings
+kea_settings_with known options above d = do
+  classes ← list_of 256 (kea_class known) (get (codes "client-classes") d)
+  subnets ← list_of 256 (kea_subnet above known) (get (codes "subnet4") d)
   Some (record { server = above.server; times = above.times; options = sent_to_all options; classes = classes; subnets = subnets })
 
 -- the settings that the value of `Dhcp4` describes, for a server with this address if no option
@@ -54,9 +58,11 @@ kea_dhcp4 server d = do
   calculated ← flag_given (get (codes "calculate-tee-times") d)
   _ ← must (has_usual_shares calculated d)
   times ← kea_times calculated d
-  options ← kea_options true (get (codes "option-data") d)
+  outside ← flag_given (get (codes "reservations-out-of-pool") d)
+  known ← kea_known (get (codes "option-def") d)
+  options ← kea_options true known (get (codes "option-data") d)
   address ← server_address options server
-  kea_settings_with options (record { server = address; times = times; calculated = calculated }) d
+  kea_settings_with known options (record { server = address; times = times; calculated = calculated; outside = outside }) d
 
 -- the settings that the value of a whole text describes
 unfoldable pub kea_root : Option ℕ → Data → Option Settings

@@ -1,8 +1,12 @@
 -- A subnet in a configuration of Kea's: a prefix, its class, pools, reservations and options.
-use Rattle.std.specs.Prelude.{ℕ, Bool, true, false, ◌||◌, List, [], codes, Option, Some, None}
+use Rattle.std.specs.Prelude.{ℕ, Bool, true, false, not, ◌||◌, List, [], codes, Option, Some, None}
+use Rattle.std.specs.List.{list_all, list_any}
 use Rattle.serde_json.specs.Data.{Data, string}
 use Rattle.serde_json.specs.Find.{get}
 use Rattle.kd_config.specs.Address.{has_address}
+use Rattle.kd_config.specs.Apart.{has}
+use Rattle.kd_config.specs.declared.pool.Pool.{Pool}
+use Rattle.kd_config.specs.declared.reservation.Reservation.{Reservation}
 use Rattle.kd_config.specs.declared.prefix.Prefix.{Prefix}
 use Rattle.kd_config.specs.declared.subnet.Subnet.{Subnet}
 use Rattle.kd_json.specs.Lists.{list_of}
@@ -15,7 +19,8 @@ use Rattle.kd_kea.specs.Pool.{kea_pool}
 use Rattle.kd_kea.specs.Reservation.{kea_reservation}
 use Rattle.kd_kea.specs.Tables.{relay_keys, subnet_keys}
 use Rattle.kd_kea.specs.Times.{repeats_times}
-use Rattle.kd_kea.specs.Values.{unless_empty}
+use Rattle.kd_kea.specs.Values.{flag_or, unless_empty}
+use Rattle.kd_kea.specs.declared.objects.definition.Definition.{Definition}
 use Rattle.kd_kea.specs.declared.objects.subnet.Above.{Above}
 use Rattle.kd_wire.specs.Steps.{◌>>=◌}
 
@@ -32,12 +37,24 @@ is_at_server server prefix (Some (string text)) =
     is_plain (word []) (string text) || has_address prefix server
 is_at_server server prefix (Some d) = false
 
--- the subnet of a prefix and a class with the lists in a value
-unfoldable pub kea_subnet_with : Prefix → Option (List ℕ) → Data → Option Subnet
-kea_subnet_with prefix class d = do
-  pools ← list_of 64 kea_pool (get (codes "pools") d)
+-- no pool has the address of a reservation
+abbrev pub lies_outside : List Pool → Reservation → Bool
+lies_outside pools reservation =
+    not (list_any (λ pool. has pool.range reservation.address) pools)
+
+-- reservations may stand beside pools: if Kea looks for reservations outside pools alone, no pool has
+-- the address of one
+abbrev pub stand_beside : Bool → List Pool → List Reservation → Bool
+stand_beside outside pools reservations =
+    not outside || list_all (lies_outside pools) reservations
+
+-- the subnet of a prefix and a class with the lists in a value, by these definitions of options
+unfoldable pub kea_subnet_with : List Definition → Bool → Prefix → Option (List ℕ) → Data → Option Subnet
+kea_subnet_with known outside prefix class d = do
+  pools ← list_of 64 (kea_pool known) (get (codes "pools") d)
   reservations ← list_of 4096 kea_reservation (get (codes "reservations") d)
-  options ← kea_options false (get (codes "option-data") d)
+  _ ← must (stand_beside outside pools reservations)
+  options ← kea_options false known (get (codes "option-data") d)
   Some (record { prefix = prefix; class = class; pools = pools; reservations = reservations; options = options })
 
 -- a value has the keys of a subnet; its `id` is checked but not used
@@ -50,10 +67,11 @@ has_subnet_form above d = do
   Some tt
 
 -- the subnet that a value describes, below what holds for the whole server; an empty class is none
-unfoldable pub kea_subnet : Above → Data → Option Subnet
-kea_subnet above d = do
+unfoldable pub kea_subnet : Above → List Definition → Data → Option Subnet
+kea_subnet above known d = do
   _ ← has_subnet_form above d
   prefix ← get (codes "subnet") d >>= subnet_prefix
   _ ← must (is_at_server above.server prefix (get (codes "interface") d))
   class ← text_if_given (get (codes "client-class") d)
-  kea_subnet_with prefix (unless_empty class) d
+  outside ← flag_or above.outside (get (codes "reservations-out-of-pool") d)
+  kea_subnet_with known outside prefix (unless_empty class) d

@@ -37,7 +37,7 @@ shared_keys =
     ∷ (codes "authoritative", usual (flag false ∷ []))
     ∷ (codes "reservations-global", usual (flag false ∷ []))
     ∷ (codes "reservations-in-subnet", usual (flag true ∷ []))
-    ∷ (codes "reservations-out-of-pool", usual (flag false ∷ []))
+    ∷ (codes "reservations-out-of-pool", served)
     ∷ (codes "reservation-mode", usual (word (codes "all") ∷ []))
     ∷ (codes "cache-threshold", usual (whole 0 ∷ fraction QUARTER ∷ []))
     ∷ (codes "cache-max-age", usual (whole 0 ∷ []))
@@ -49,11 +49,13 @@ abbrev pub server_keys : List (List ℕ × KeyUse)
 server_keys =
     (codes "client-classes", served)
     ∷ (codes "subnet4", served)
+    ∷ (codes "option-def", served)
     ∷ (codes "offer-lifetime", served)
     ∷ (codes "decline-probation-period", served)
     ∷ (codes "dhcp-ddns", served)
     ∷ (codes "config-control", served)
     ∷ (codes "host-reservation-identifiers", served)
+    ∷ (codes "hooks-libraries", served)
     ∷ (codes "interfaces-config", skipped)
     ∷ (codes "lease-database", skipped)
     ∷ (codes "loggers", skipped)
@@ -73,10 +75,8 @@ server_keys =
     ∷ (codes "reservations-lookup-first", usual (flag false ∷ []))
     ∷ (codes "stash-agent-options", usual (flag false ∷ []))
     ∷ (codes "dhcp4o6-port", usual (whole 0 ∷ []))
-    ∷ (codes "hooks-libraries", usual (no_list ∷ []))
-    ∷ (codes "option-def", usual (no_list ∷ []))
     ∷ (codes "shared-networks", usual (no_list ∷ []))
-    ∷ (codes "reservations", usual (no_list ∷ []))
+    ∷ (codes "reservations", skipped)
     ∷ (codes "hosts-databases", usual (no_list ∷ []))
     ∷ shared_keys
 
@@ -97,6 +97,18 @@ data_keys =
     ∷ (codes "client-classes", usual (no_list ∷ []))
     ∷ remarks
 
+-- the keys of an option's definition
+abbrev pub definition_keys : List (List ℕ × KeyUse)
+definition_keys =
+    (codes "name", served)
+    ∷ (codes "code", served)
+    ∷ (codes "type", served)
+    ∷ (codes "array", served)
+    ∷ (codes "record-types", served)
+    ∷ (codes "space", served)
+    ∷ (codes "encapsulate", served)
+    ∷ remarks
+
 -- the keys of a class
 abbrev pub class_keys : List (List ℕ × KeyUse)
 class_keys =
@@ -104,8 +116,8 @@ class_keys =
     ∷ (codes "test", served)
     ∷ (codes "option-data", served)
     ∷ (codes "only-if-required", usual (flag false ∷ []))
+    ∷ (codes "option-def", served)
     ∷ (codes "only-in-additional-list", usual (flag false ∷ []))
-    ∷ (codes "option-def", usual (no_list ∷ []))
     ∷ remarks ++ boot_keys
 
 -- the keys that ask for further classes, each empty
@@ -161,6 +173,7 @@ abbrev pub key_table : ObjectKind → List (List ℕ × KeyUse)
 key_table kinds.Whole = root_keys
 key_table kinds.Server = server_keys
 key_table kinds.Data = data_keys
+key_table kinds.Definition = definition_keys
 key_table kinds.Class = class_keys
 key_table kinds.Subnet = subnet_keys
 key_table kinds.Relay = relay_keys

@@ -1,7 +1,7 @@
 -- Values in a configuration of Kea's that may be absent.
 use Rattle.std.specs.Prelude.{ℕ, ◌==◌, Bool, true, false, not, ◌&&◌, ◌||◌, List, [], ◌∷◌, Option, Some, None, if◌then◌else◌}
 use Rattle.serde_json.specs.Data.{Data, Items, no_items, item, string}
-use Rattle.serde_json.specs.Find.{as_bool}
+use Rattle.serde_json.specs.Find.{as_bool, as_str}
 use Rattle.kd_kea.specs.Keys.{Plain, is_plain}
 
 -- a value is absent, or this plain one
@@ -13,6 +13,16 @@ is_plain_if_given plain (Some d) = is_plain plain d
 abbrev pub flag_given : Option Data → Option Bool
 flag_given None = Some false
 flag_given (Some d) = as_bool d
+
+-- a truth value; an absent one is another
+abbrev pub flag_or : Bool → Option Data → Option Bool
+flag_or other None = Some other
+flag_or other (Some d) = as_bool d
+
+-- a text; an absent one is another text
+abbrev pub text_otherwise : List ℕ → Option Data → Option (List ℕ)
+text_otherwise other None = Some other
+text_otherwise other (Some d) = as_str d
 
 -- a sign between bytes in hexadecimal
 abbrev pub is_between_bytes : ℕ → Bool

@@ -16,7 +16,7 @@ use serde_json::{Map, Value};
 use std::alloc::Global;
 
 // The beginning of keys about updates of names, which are skipped in every object.
-const UPDATES: &[u8] = b"ddns-";
+pub(crate) const UPDATES: &[u8] = b"ddns-";
 
 // Checks that the value is an object of a kind: each key is in the kind's tables, and may have its
 // value.
@@ -54,7 +54,7 @@ fn refused_key<'a>(
 }
 
 // Reports whether a key may have the value that it has in an object.
-fn is_allowed(kind: ObjectKind, key: &str, object: &Value) -> bool
+pub(crate) fn is_allowed(kind: ObjectKind, key: &str, object: &Value) -> bool
     ensures { result
         ≡ may_have (key_use (key_table kind) key.now) (get key.now (view object.now)) }
 {

@@ -5,11 +5,13 @@
 //! (`specs/Kea.antt`). The settings are those of `specs/Settings.antt`, object by object;
 //! `specs/Tables.antt` lists the keys of each kind of object, and whether a key is read, skipped,
 //! or allowed with its usual values alone. Nothing that a client notices is skipped. The rules over
-//! the whole, the classes and the faults are those of kd_json.
+//! the whole, the classes and the faults are those of kd_json. `notes_of` lists the keys that are
+//! skipped and those that are refused (`specs/Notes.antt`).
 #![tactic(auto)]
 
 mod checking;
 mod keys;
+pub mod notes;
 mod objects;
 mod plain;
 mod read;

@@ -13,6 +13,8 @@ pub(crate) enum ObjectKind {
     Server,
     // An entry of `option-data`.
     Data,
+    // An entry of `option-def`.
+    Definition,
     // A class.
     Class,
     // A subnet.
@@ -78,7 +80,7 @@ const SHARED: &[Row] = &[
     ("authoritative", OFF),
     ("reservations-global", OFF),
     ("reservations-in-subnet", ON),
-    ("reservations-out-of-pool", OFF),
+    ("reservations-out-of-pool", KeyRule::Served),
     (
         "reservation-mode",
         KeyRule::Usual(&[UsualValue::Text("all")]),
@@ -95,11 +97,13 @@ const SHARED: &[Row] = &[
 const SERVER: &[Row] = &[
     ("client-classes", KeyRule::Served),
     ("subnet4", KeyRule::Served),
+    ("option-def", KeyRule::Served),
     ("offer-lifetime", KeyRule::Served),
     ("decline-probation-period", KeyRule::Served),
     ("dhcp-ddns", KeyRule::Served),
     ("config-control", KeyRule::Served),
     ("host-reservation-identifiers", KeyRule::Served),
+    ("hooks-libraries", KeyRule::Served),
     ("interfaces-config", KeyRule::Skipped),
     ("lease-database", KeyRule::Skipped),
     ("loggers", KeyRule::Skipped),
@@ -119,10 +123,8 @@ const SERVER: &[Row] = &[
     ("reservations-lookup-first", OFF),
     ("stash-agent-options", OFF),
     ("dhcp4o6-port", ZERO),
-    ("hooks-libraries", NO_LIST),
-    ("option-def", NO_LIST),
     ("shared-networks", NO_LIST),
-    ("reservations", NO_LIST),
+    ("reservations", KeyRule::Skipped),
     ("hosts-databases", NO_LIST),
 ];
 
@@ -141,14 +143,25 @@ const OPTION: &[Row] = &[
     ("client-classes", NO_LIST),
 ];
 
+// Keys of an option's definition.
+const DEFINITION: &[Row] = &[
+    ("name", KeyRule::Served),
+    ("code", KeyRule::Served),
+    ("type", KeyRule::Served),
+    ("array", KeyRule::Served),
+    ("record-types", KeyRule::Served),
+    ("space", KeyRule::Served),
+    ("encapsulate", KeyRule::Served),
+];
+
 // Keys of a class.
 const CLASS: &[Row] = &[
     ("name", KeyRule::Served),
     ("test", KeyRule::Served),
     ("option-data", KeyRule::Served),
     ("only-if-required", OFF),
+    ("option-def", KeyRule::Served),
     ("only-in-additional-list", OFF),
-    ("option-def", NO_LIST),
 ];
 
 // Keys that ask for further classes.
@@ -198,6 +211,8 @@ const SERVER_TABLES: &[&[Row]] = &[SERVER, SHARED, REMARKS, BOOT];
 
 const OPTION_TABLES: &[&[Row]] = &[OPTION, REMARKS];
 
+const DEFINITION_TABLES: &[&[Row]] = &[DEFINITION, REMARKS];
+
 const CLASS_TABLES: &[&[Row]] = &[CLASS, REMARKS, BOOT];
 
 const SUBNET_TABLES: &[&[Row]] = &[SUBNET, REQUIRED, SHARED, REMARKS, BOOT];
@@ -217,6 +232,7 @@ impl ObjectKind {
             ObjectKind::Whole => WHOLE_TABLES,
             ObjectKind::Server => SERVER_TABLES,
             ObjectKind::Data => OPTION_TABLES,
+            ObjectKind::Definition => DEFINITION_TABLES,
             ObjectKind::Class => CLASS_TABLES,
             ObjectKind::Subnet => SUBNET_TABLES,
             ObjectKind::Relay => RELAY_TABLES,

@@ -1,10 +1,16 @@
 ghost use Rattle.std.specs.Prelude.{◌≡◌};
-ghost use Rattle.kd_kea.specs.Class.{kea_class, source_by};
+ghost use Rattle.serde_json.specs.View.{view};
+ghost use Rattle.kd_json.specs.Gives.{Means};
+ghost use Rattle.kd_json.specs.declared.objects.faults.SettingsFault.TheVariants.{Memory};
+ghost use Rattle.kd_kea.specs.Class.{kea_class_options, kea_class, source_by};
 
 use crate::checking::check_keys;
+use crate::objects::definition::{Definition, definitions_of};
 use crate::objects::flags::non_empty;
 use crate::objects::options::options_of;
+use crate::objects::scope::OptionScope;
 use crate::tables::ObjectKind;
+use kd_classes::OptionList;
 use kd_json::objects::class::{ClassEntry, TestSource, name_in};
 use kd_json::objects::faults::SettingsFault;
 use kd_json::objects::lists::EntryReader;
@@ -15,12 +21,16 @@ use serde_json::Value;
 use std::alloc::Global;
 
 // Reads classes.
-pub(crate) struct ClassReader;
+#[derive(Clone, Copy)]
+pub(crate) struct ClassReader<'a> {
+    // The definitions of options of the whole server.
+    pub(crate) known: &'a [Definition],
+}
 
-impl EntryReader for ClassReader {
+impl<'a> EntryReader for ClassReader<'a> {
     type Entry = ClassEntry;
 
-    ghost means = { λ _. kea_class };
+    ghost means = { λ reader. kea_class reader.known.now };
 
     #[tactic(auto, unfolding(crate::specs::Class::kea_class))]
     fn read(
@@ -38,13 +48,32 @@ impl EntryReader for ClassReader {
             None => return Err(bad_value(alloc, at, "name")),
         };
         let text = text_or_none(alloc, value, at, "test")?;
-        let options = options_of(alloc, value, at, false)?;
+        let options = options_of_class(alloc, value, at, self.known)?;
         Ok(ClassEntry {
             name,
             source: source_of(non_empty(text)),
             options,
         })
     }
+}
+
+// Reads the options of a class, by its own definitions and those of the whole server.
+#[tactic(auto, unfolding(crate::specs::Class::kea_class_options))]
+fn options_of_class(
+    alloc: Global,
+    class: &Value,
+    at: &Place<'_>,
+    known: &[Definition],
+) -> Result<OptionList, SettingsFault>
+    ensures { Means Memory result (kea_class_options known.now (view class.now)) }
+{
+    let own = definitions_of(alloc, class, at, true)?;
+    let scope = OptionScope {
+        for_all: false,
+        own: own.as_slice(),
+        shared: known,
+    };
+    options_of(alloc, class, at, scope)
 }
 
 // The test of a class that has this text, if it has one.

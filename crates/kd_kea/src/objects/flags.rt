@@ -1,15 +1,15 @@
-ghost use Rattle.serde_json.specs.Find.{get};
+ghost use Rattle.serde_json.specs.Find.{as_str, get};
 ghost use Rattle.serde_json.specs.View.{view};
-ghost use Rattle.kd_json.specs.Gives.{Means};
+ghost use Rattle.kd_json.specs.Gives.{GivesAs, Means};
 ghost use Rattle.kd_json.specs.Steps.{must};
 ghost use Rattle.kd_json.specs.declared.objects.faults.SettingsFault.TheVariants.{Memory};
 ghost use Rattle.kd_kea.specs.Rows.{plain_of};
-ghost use Rattle.kd_kea.specs.Values.{flag_given, is_plain_if_given, unless_empty};
-ghost use Rattle.std.specs.Prelude.{◌≡◌};
+ghost use Rattle.kd_kea.specs.Values.{flag_given, flag_or, is_plain_if_given, text_otherwise, unless_empty};
+ghost use Rattle.std.specs.Prelude.{◌≡◌, option_and_then};
 
 use crate::keys::{UsualValue, is_usual};
 use kd_json::objects::faults::SettingsFault;
-use kd_json::rules::place::{Place, bad_value, unknown};
+use kd_json::rules::place::{Place, bad_value, missing, unknown};
 use kd_wire::Bytes;
 use serde_json::Value;
 use std::alloc::Global;
@@ -46,6 +46,64 @@ pub(crate) fn flag_at(
             None => Err(bad_value(alloc, at, key)),
         },
         None => Ok(false),
+    }
+}
+
+// Returns the truth value at a key; an absent one is another.
+pub(crate) fn flag_or_default(
+    alloc: Global,
+    object: &Value,
+    at: &Place<'_>,
+    key: &'static str,
+    other: bool,
+) -> Result<bool, SettingsFault>
+    ensures { Means Memory result (flag_or other (get key.now (view object.now))) }
+{
+    match object.get(key) {
+        Some(value) => match value.as_bool() {
+            Some(flag) => Ok(flag),
+            None => Err(bad_value(alloc, at, key)),
+        },
+        None => Ok(other),
+    }
+}
+
+// Returns the text at a key.
+pub(crate) fn text_at<'a>(
+    alloc: Global,
+    object: &'a Value,
+    at: &Place<'_>,
+    key: &'static str,
+) -> Result<&'a str, SettingsFault>
+    ensures { GivesAs Memory (λ text. text.now) result
+        (option_and_then as_str (get key.now (view object.now))) }
+{
+    let Some(value) = object.get(key) else {
+        return Err(missing(alloc, at, key));
+    };
+    match value.as_str() {
+        Some(text) => Ok(text),
+        None => Err(bad_value(alloc, at, key)),
+    }
+}
+
+// Returns the text at a key; an absent one is another text.
+pub(crate) fn text_or_default<'a>(
+    alloc: Global,
+    object: &'a Value,
+    at: &Place<'_>,
+    key: &'static str,
+    other: &'static str,
+) -> Result<&'a str, SettingsFault>
+    ensures { GivesAs Memory (λ text. text.now) result
+        (text_otherwise other.now (get key.now (view object.now))) }
+{
+    let Some(value) = object.get(key) else {
+        return Ok(other);
+    };
+    match value.as_str() {
+        Some(text) => Ok(text),
+        None => Err(bad_value(alloc, at, key)),
     }
 }
 

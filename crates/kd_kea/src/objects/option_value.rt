@@ -1,54 +1,64 @@
-ghost use Rattle.std.specs.Prelude.{◌≡◌, codes, is_some};
+ghost use Rattle.std.specs.Prelude.{◌≡◌, codes};
+ghost use Rattle.std.specs.Option.{option_copied};
 ghost use Rattle.serde_json.specs.Find.{get};
 ghost use Rattle.serde_json.specs.View.{view};
 ghost use Rattle.kd_json.specs.Gives.{Means};
 ghost use Rattle.kd_json.specs.declared.objects.faults.SettingsFault.TheVariants.{Memory};
-ghost use Rattle.kd_kea.specs.OptionValue.{data_as_text, data_given, hex_data, is_hexadecimal, is_text_given, text_data, text_kind};
-ghost use Rattle.kd_names.specs.Table.{kind_by_code};
+ghost use Rattle.kd_kea.specs.OptionValue.{are_bytes, data_as_text, data_by, fields_data, hex_data, is_hexadecimal, is_text_given, standard_type, text_data, text_kind};
 
+use crate::objects::definition::Definition;
+use crate::objects::flags::text_or_default;
+use crate::objects::space::is_of_messages;
 use crate::objects::whole_bytes::{check_whole, is_whole};
 use kd_json::objects::faults::SettingsFault;
 use kd_json::objects::values::bytes_at;
 use kd_json::rules::place::{Place, bad_place, bad_value, missing};
 use kd_names::{Kind, kind_of};
-use kd_values::value_of;
+use kd_values::{FieldType, fields_of, value_of};
 use kd_wire::Bytes;
 use serde_json::Value;
 use std::alloc::Global;
 
-// The options whose values consist of other options (RFC 2132 section 8.4, RFC 3925 section 4).
-const OPTION_VENDOR_ENCAPSULATED: u8 = 43;
-
+// The option that consists of the options of vendors (RFC 3925 section 4).
 const OPTION_VIVSO_SUBOPTIONS: u8 = 125;
 
 // The most bytes that the value of an option has.
 const LONGEST_VALUE: usize = 1024;
 
-// Reads the value of an option with this code.
-#[tactic(auto, unfolding(crate::specs::OptionValue::data_given))]
+// Reads the value of an option, as text by its definition or its standard type, or in hexadecimal.
 pub(crate) fn data_of(
     alloc: Global,
-    code: u8,
+    is_text: bool,
+    definition: Option<&Definition>,
+    kind: Option<Kind>,
     option: &Value,
     at: &Place<'_>,
 ) -> Result<Bytes, SettingsFault>
-    ensures { Means Memory result (data_given code (view option.now)) }
+    ensures { Means Memory result
+        (data_by is_text (option_copied definition.entry) kind
+        (get (codes "data") (view option.now))) }
 {
-    if is_text(alloc, code, option, at)? {
-        read_text(alloc, text_kind_of(code), option, at)
-    } else {
-        read_hexadecimal(alloc, option, at)
+    if !is_text {
+        return read_hexadecimal(alloc, option, at);
+    }
+    match definition {
+        Some(it) => read_fields(alloc, it, option, at),
+        None => read_text(alloc, kind, option, at),
     }
 }
 
-// Reports whether the data is text: as `csv-format` says, or else if the option has a type.
-fn is_text(alloc: Global, code: u8, option: &Value, at: &Place<'_>) -> Result<bool, SettingsFault>
+// Reports whether the data is text: as `csv-format` says, or else if this is usual.
+pub(crate) fn text_given(
+    alloc: Global,
+    usual: bool,
+    option: &Value,
+    at: &Place<'_>,
+) -> Result<bool, SettingsFault>
     ensures { Means Memory result
-        (is_text_given (is_some (kind_by_code code))
-        (get (codes "csv-format") (view option.now))) }
+        (is_text_given usual (get (codes "csv-format") (view option.now))) }
 {
     let Some(value) = option.get("csv-format") else {
-        return Ok(kind_of(code).is_some());
+        return Ok(usual);
     };
     match value.as_bool() {
         Some(flag) => Ok(flag),
@@ -56,18 +66,66 @@ fn is_text(alloc: Global, code: u8, option: &Value, at: &Place<'_>) -> Result<bo
     }
 }
 
-// Returns the type of an option whose value is written as text, if that can be read.
-fn text_kind_of(code: u8) -> Option<Kind>
-    ensures { result ≡ text_kind code }
+// Returns the standard type of the option of a space with a code.
+pub(crate) fn standard_type_of(space: &[u8], code: u8) -> Option<Kind>
+    ensures { result ≡ standard_type space.now code }
 {
-    if code == OPTION_VENDOR_ENCAPSULATED || code == OPTION_VIVSO_SUBOPTIONS {
-        None
-    } else {
+    if is_of_messages(space) {
         kind_of(code)
+    } else {
+        None
     }
 }
 
-// Reads the value that data gives as text of a type.
+// Returns the standard type by which text is read.
+pub(crate) fn text_kind_of(space: &[u8], code: u8) -> Option<Kind>
+    ensures { result ≡ text_kind space.now code }
+{
+    if code == OPTION_VIVSO_SUBOPTIONS {
+        None
+    } else {
+        standard_type_of(space, code)
+    }
+}
+
+// Reads the value that data gives as text for the fields of a definition.
+#[tactic(auto, unfolding(crate::specs::OptionValue::fields_data))]
+fn read_fields(
+    alloc: Global,
+    it: &Definition,
+    option: &Value,
+    at: &Place<'_>,
+) -> Result<Bytes, SettingsFault>
+    ensures { Means Memory result (fields_data it.now (get (codes "data") (view option.now))) }
+{
+    let Some(fields) = &it.fields else {
+        return Err(bad_value(alloc, at, "csv-format"));
+    };
+    let text = text_or_default(alloc, option, at, "data", "")?.as_bytes();
+    if are_only_bytes(fields.as_slice()) && !is_whole(text) {
+        return Err(bad_value(alloc, at, "data"));
+    }
+    let Some(bytes) = fields_of(alloc, fields.as_slice(), it.repeats, text)? else {
+        return Err(bad_value(alloc, at, "data"));
+    };
+    if bytes.as_slice().len() <= LONGEST_VALUE {
+        Ok(bytes)
+    } else {
+        Err(bad_value(alloc, at, "data"))
+    }
+}
+
+// Reports whether fields are bytes alone, which are written in hexadecimal.
+fn are_only_bytes(fields: &[FieldType]) -> bool
+    ensures { result ≡ are_bytes fields.now }
+{
+    match fields {
+        [FieldType::Bytes, ..] => true,
+        _ => false,
+    }
+}
+
+// Reads the value that data gives as text of a standard type.
 fn read_text(
     alloc: Global,
     kind: Option<Kind>,

@@ -1,179 +1,125 @@
-ghost use Rattle.std.specs.Prelude.{◌≡◌, IfOk, codes, option_map};
-ghost use Rattle.std.specs.List.{find};
+ghost use Rattle.std.specs.Prelude.{◌≡◌, IfOk, codes};
+ghost use Rattle.std.specs.List.{find, list_all, list_any};
 ghost use Rattle.std.specs.Option.{option_copied};
 ghost use Rattle.serde_json.specs.Find.{get};
 ghost use Rattle.serde_json.specs.View.{view};
 ghost use Rattle.kd_json.specs.Gives.{Means};
 ghost use Rattle.kd_json.specs.Steps.{must};
 ghost use Rattle.kd_json.specs.declared.objects.faults.SettingsFault.TheVariants.{Memory};
-ghost use Rattle.kd_kea.specs.Options.{code_if_given, code_named, codes_differ, may_have_name, is_server_option, kea_code, kea_option, kea_options, may_configure, one_code, sent_to_all, server_address, some_address, address_in_bytes};
+ghost use Rattle.kd_kea.specs.Options.{address_in_bytes, entries_differ, is_entry, is_of_space, is_server_option, is_short, kea_options, may_hold, options_by, sent_to_all, server_address, some_address};
+ghost use Rattle.kd_kea.specs.Scope.{definitions_in};
 
-use crate::checking::check_keys;
-use crate::keys::UsualValue;
-use crate::objects::flags::check_usual;
-use crate::objects::option_value::data_of;
-use crate::tables::ObjectKind;
+use crate::objects::entry::{OPTION_SERVER_IDENTIFIER, OptionEntry, OptionReader};
+use crate::objects::inside::options_among;
+use crate::objects::scope::OptionScope;
+use crate::objects::space::is_of_messages;
 use kd_classes::{OptionData, OptionList};
 use kd_json::objects::faults::SettingsFault;
-use kd_json::objects::lists::{EntryReader, entries_of};
-use kd_json::objects::options::has_code;
-use kd_json::objects::values::{number_in, text_or_none};
-use kd_json::rules::place::{Place, bad_value, missing};
-use kd_names::{kind_of, option_named};
-use kd_wire::Bytes;
+use kd_json::objects::lists::entries_of;
+use kd_json::rules::place::{Place, bad_place, bad_value};
 use serde_json::Value;
 use std::alloc::{AllocError, Global};
 
-// The codes of the options that the server generates itself.
-const OWN_CODES: [u8; 11] = [50, 51, 52, 53, 54, 55, 57, 58, 59, 61, 82];
+// The most bytes that the value of an option has.
+const LONGEST_VALUE: usize = 1024;
 
-// The code of the option that has the server's address (RFC 2132 section 9.7).
-const OPTION_SERVER_IDENTIFIER: u8 = 54;
-
-// Reads options, for the whole server or for a part of it.
-#[derive(Clone, Copy)]
-pub(crate) struct OptionReader {
-    // The option with the server's address may be there.
-    pub(crate) for_all: bool,
-}
-
-impl EntryReader for OptionReader {
-    type Entry = OptionData;
-
-    ghost means = { λ reader. kea_option reader.for_all };
-
-    #[tactic(auto, unfolding(crate::specs::Options::kea_option))]
-    fn read(
-        &self,
-        alloc: Global,
-        value: &Value,
-        at: &Place<'_>,
-    ) -> Result<OptionData, SettingsFault> {
-        check_keys(alloc, value, at, ObjectKind::Data)?;
-        check_usual(alloc, value, at, "space", UsualValue::Text("dhcp4"))?;
-        let code = code_at(alloc, value, at, self.for_all)?;
-        Ok(OptionData {
-            code,
-            value: data_of(alloc, code, value, at)?,
-        })
-    }
-}
-
-// Reads the code of an option by its `code` and `name`, for the whole server or for a part of it.
-#[tactic(auto, unfolding(crate::specs::Options::kea_code))]
-fn code_at(
-    alloc: Global,
-    option: &Value,
-    at: &Place<'_>,
-    for_all: bool,
-) -> Result<u8, SettingsFault>
-    ensures { Means Memory result (kea_code for_all (view option.now)) }
-{
-    let given = given_code(alloc, option, at)?;
-    let name = text_or_none(alloc, option, at, "name")?;
-    let Some(code) = agreed(given, code_of_name(name)) else {
-        return Err(no_code(alloc, option, at));
-    };
-    if is_configurable(code, for_all) {
-        Ok(code)
-    } else {
-        Err(bad_value(alloc, at, "code"))
-    }
-}
-
-// Returns the code at `code`, if it is given.
-fn given_code(alloc: Global, option: &Value, at: &Place<'_>) -> Result<Option<u8>, SettingsFault>
-    ensures { Means Memory result (code_if_given (get (codes "code") (view option.now))) }
-{
-    let Some(value) = option.get("code") else {
-        return Ok(None);
-    };
-    match number_in(value, 1, 254) {
-        Some(code) => Ok(Some(code as u8)),
-        None => Err(bad_value(alloc, at, "code")),
-    }
-}
-
-// Returns the code of the option with a name, if there is a name; no code if it is not known.
-fn code_of_name(name: Option<Bytes>) -> Option<Option<u8>>
-    ensures { result ≡ option_map code_named name }
-{
-    match name {
-        Some(name) => match option_named(name.as_slice()) {
-            Some((code, _)) => Some(Some(code)),
-            None => Some(None),
-        },
-        None => None,
-    }
-}
-
-// Returns the one code of a code and of a name, if one of them or both are given.
-fn agreed(given: Option<u8>, named: Option<Option<u8>>) -> Option<u8>
-    ensures { result ≡ one_code given named }
-{
-    match (given, named) {
-        (given, None) => given,
-        (None, Some(named)) => named,
-        (Some(code), Some(named)) if goes_with(code, named) => Some(code),
-        (Some(_), Some(_)) => None,
-    }
-}
-
-// Reports whether a code may be given beside a name with this code.
-fn goes_with(code: u8, named: Option<u8>) -> bool
-    ensures { result ≡ may_have_name code named }
-{
-    match named {
-        Some(named) => code == named,
-        None => kind_of(code).is_none(),
-    }
-}
-
-// Returns the fault of an option without one code: it has neither a code nor a name, or its name is
-// not known or that of another code.
-fn no_code(alloc: Global, option: &Value, at: &Place<'_>) -> SettingsFault {
-    match option.get("name") {
-        Some(_) => bad_value(alloc, at, "name"),
-        None => missing(alloc, at, "code"),
-    }
-}
-
-// Reports whether an option with this code may be configured.
-fn is_configurable(code: u8, for_all: bool) -> bool
-    ensures { result ≡ may_configure for_all code }
-{
-    1 <= code
-        && code <= 254
-        && (for_all && code == OPTION_SERVER_IDENTIFIER || !OWN_CODES.contains(&code))
-}
-
-// Reads the options of the list at the key `option-data`, with no code twice.
+// Reads the options of the list at the key `option-data`, none of which is there twice.
 #[tactic(auto, unfolding(crate::specs::Options::kea_options))]
 pub(crate) fn options_of(
     alloc: Global,
     object: &Value,
     at: &Place<'_>,
-    for_all: bool,
+    scope: OptionScope<'_>,
 ) -> Result<OptionList, SettingsFault>
     ensures { Means Memory result
-        (kea_options for_all (get (codes "option-data") (view object.now))) }
+        (kea_options scope.entry.for_all (definitions_in scope.entry)
+        (get (codes "option-data") (view object.now))) }
 {
-    let reader = OptionReader { for_all };
-    let options = entries_of(alloc, object, at, "option-data", 64, &reader)?;
-    check_codes(alloc, options.as_slice(), &Place::Key(&*at, "option-data"))?;
+    let list = Place::Key(&*at, "option-data");
+    let reader = OptionReader { scope };
+    let entries = entries_of(alloc, object, at, "option-data", 64, &reader)?;
+    check_entries(alloc, entries.as_slice(), &list)?;
+    check_holders(alloc, entries.as_slice(), &list)?;
+    let options = options_among(alloc, entries.as_slice())?;
+    check_short(alloc, options.as_slice(), &list)?;
     Ok(options)
 }
 
-// Checks that no two options have the same code.
-fn check_codes(alloc: Global, options: &[OptionData], at: &Place<'_>) -> Result<(), SettingsFault>
-    ensures { Means Memory result (must (codes_differ options.now)) }
+// Checks that no two entries are of one space and have one code.
+fn check_entries(
+    alloc: Global,
+    entries: &[OptionEntry],
+    at: &Place<'_>,
+) -> Result<(), SettingsFault>
+    ensures { Means Memory result (must (entries_differ entries.now)) }
 {
-    for i in 0..options.len() {
-        if has_code(options[i].code, &options[i + 1..]) {
+    for i in 0..entries.len() {
+        if is_again(&entries[i], &entries[i + 1..]) {
             return Err(bad_value(alloc, &Place::Item(&*at, i), "code"));
         }
     }
     Ok(())
+}
+
+// Reports whether one of these entries is of the same space and has the same code.
+fn is_again(entry: &OptionEntry, others: &[OptionEntry]) -> bool
+    ensures { result ≡ list_any (is_entry entry.now.space entry.now.code) others.now }
+{
+    others.iter().any(|other| other.space.as_slice() == entry.space.as_slice()
+        && other.code == entry.code)
+}
+
+// Checks that each entry may stand beside the others.
+fn check_holders(
+    alloc: Global,
+    entries: &[OptionEntry],
+    at: &Place<'_>,
+) -> Result<(), SettingsFault>
+    ensures { Means Memory result (must (list_all (may_hold entries.now) entries.now)) }
+{
+    for i in 0..entries.len() {
+        if !holds_well(&entries[i], entries) {
+            return Err(bad_value(alloc, &Place::Item(&*at, i), "data"));
+        }
+    }
+    Ok(())
+}
+
+// Reports whether an entry may stand beside these: if its option consists of options that are here,
+// it is an option of a message, and its own value is text or empty.
+fn holds_well(entry: &OptionEntry, entries: &[OptionEntry]) -> bool
+    ensures { result ≡ may_hold entries.now entry.now }
+{
+    !has_space(entries, entry.inner.as_slice())
+        || is_of_messages(entry.space.as_slice())
+            && (entry.is_text || entry.value.as_slice().is_empty())
+}
+
+// Reports whether one of these entries is of a space.
+fn has_space(entries: &[OptionEntry], space: &[u8]) -> bool
+    ensures { result ≡ list_any (is_of_space space.now) entries.now }
+{
+    entries.iter().any(|entry| entry.space.as_slice() == space)
+}
+
+// Checks that no option is too long.
+fn check_short(alloc: Global, options: &[OptionData], at: &Place<'_>) -> Result<(), SettingsFault>
+    ensures { Means Memory result (must (list_all is_short options.now)) }
+{
+    if are_short(options) {
+        Ok(())
+    } else {
+        Err(bad_place(alloc, at))
+    }
+}
+
+// Reports whether no option is too long.
+fn are_short(options: &[OptionData]) -> bool
+    ensures { result ≡ list_all is_short options.now }
+{
+    options
+        .iter()
+        .all(|option| option.value.as_slice().len() <= LONGEST_VALUE)
 }
 
 // Returns the server's address: that of its option among these, or else the given one; not

@@ -1,7 +1,9 @@
 ghost use Rattle.kd_kea.specs.Pool.{kea_pool};
 
 use crate::checking::check_keys;
+use crate::objects::definition::Definition;
 use crate::objects::options::options_of;
+use crate::objects::scope::part_scope;
 use crate::tables::ObjectKind;
 use kd_config::Pool;
 use kd_json::objects::faults::SettingsFault;
@@ -12,12 +14,16 @@ use serde_json::Value;
 use std::alloc::Global;
 
 // Reads pools.
-pub(crate) struct PoolReader;
+#[derive(Clone, Copy)]
+pub(crate) struct PoolReader<'a> {
+    // The definitions of options.
+    pub(crate) known: &'a [Definition],
+}
 
-impl EntryReader for PoolReader {
+impl<'a> EntryReader for PoolReader<'a> {
     type Entry = Pool;
 
-    ghost means = { λ _. kea_pool };
+    ghost means = { λ reader. kea_pool reader.known.now };
 
     #[tactic(auto, unfolding(crate::specs::Pool::kea_pool))]
     fn read(&self, alloc: Global, value: &Value, at: &Place<'_>) -> Result<Pool, SettingsFault> {
@@ -28,7 +34,7 @@ impl EntryReader for PoolReader {
         let Some(range) = range_in(text) else {
             return Err(bad_value(alloc, at, "pool"));
         };
-        let options = options_of(alloc, value, at, false)?;
+        let options = options_of(alloc, value, at, part_scope(self.known))?;
         Ok(Pool { range, options })
     }
 }

@@ -13,8 +13,11 @@ ghost use Rattle.kd_kea.specs.Settings.{finds_reservations, has_server_form, kea
 use crate::checking::check_keys;
 use crate::keys::{UsualValue, is_usual};
 use crate::objects::class::ClassReader;
+use crate::objects::definition::{Definition, known_definitions};
 use crate::objects::flags::{check_usual, flag_at};
+use crate::objects::hooks::check_hooks;
 use crate::objects::options::{address_among, options_of, without_server};
+use crate::objects::scope::scope_of_all;
 use crate::objects::subnet::{Above, SubnetReader};
 use crate::objects::times::{check_shares, times_of};
 use crate::tables::ObjectKind;
@@ -57,14 +60,17 @@ fn settings_of(
     let calculated = flag_at(alloc, value, at, "calculate-tee-times")?;
     check_shares(alloc, value, at, calculated)?;
     let times = times_of(alloc, value, at, calculated)?;
-    let options = options_of(alloc, value, at, true)?;
+    let outside = flag_at(alloc, value, at, "reservations-out-of-pool")?;
+    let known = known_definitions(alloc, value, at)?;
+    let options = options_of(alloc, value, at, scope_of_all(known.as_slice()))?;
     let server = address_of(alloc, options.as_slice(), at, server)?;
     let above = Above {
         server,
         times,
         calculated,
+        outside,
     };
-    settings_of_lists(alloc, value, at, options, above)
+    settings_of_lists(alloc, value, at, known.as_slice(), options, above)
 }
 
 // Returns the server's address, by the options of the whole server.
@@ -86,19 +92,27 @@ fn address_of(
 }
 
 // Builds the settings of options and what holds for the whole server, with the lists in the value
-// of `Dhcp4`.
+// of `Dhcp4`, by these definitions of options.
 #[tactic(auto, unfolding(crate::specs::Settings::kea_settings_with))]
 fn settings_of_lists(
     alloc: Global,
     value: &Value,
     at: &Place<'_>,
+    known: &[Definition],
     options: OptionList,
     above: Above,
 ) -> Result<Settings, SettingsFault>
-    ensures { Means Memory result (kea_settings_with options above (view value.now)) }
+    ensures { Means Memory result (kea_settings_with known.now options above (view value.now)) }
 {
-    let reader = SubnetReader { above };
-    let classes = entries_of(alloc, value, at, "client-classes", 256, &ClassReader)?;
+    let reader = SubnetReader { above, known };
+    let classes = entries_of(
+        alloc,
+        value,
+        at,
+        "client-classes",
+        256,
+        &ClassReader { known },
+    )?;
     let subnets = entries_of(alloc, value, at, "subnet4", 256, &reader)?;
     let options = without_server(alloc, options)?;
     Ok(Settings {
@@ -132,7 +146,8 @@ fn check_form(alloc: Global, value: &Value, at: &Place<'_>) -> Result<(), Settin
         "config-databases",
         UsualValue::EmptyList,
     )?;
-    check_identifiers(alloc, value, at)
+    check_identifiers(alloc, value, at)?;
+    check_hooks(alloc, value, at)
 }
 
 // Checks that an object, if it is given, turns nothing on: one key of it is absent, or has its

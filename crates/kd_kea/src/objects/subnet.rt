@@ -2,19 +2,23 @@ ghost use Rattle.std.specs.Prelude.{◌≡◌};
 ghost use Rattle.serde_json.specs.Find.{get};
 ghost use Rattle.serde_json.specs.View.{view};
 ghost use Rattle.std.specs.Prelude.{codes};
+ghost use Rattle.std.specs.List.{list_all, list_any};
+ghost use Rattle.kd_config.specs.Apart.{has};
 ghost use Rattle.kd_json.specs.Gives.{Means};
 ghost use Rattle.kd_json.specs.Steps.{must};
 ghost use Rattle.kd_json.specs.declared.objects.faults.SettingsFault.TheVariants.{Memory};
-ghost use Rattle.kd_kea.specs.Subnet.{has_subnet_form, is_at_server, kea_subnet, kea_subnet_with, names_no_relay};
+ghost use Rattle.kd_kea.specs.Subnet.{has_subnet_form, is_at_server, kea_subnet, kea_subnet_with, lies_outside, names_no_relay, stand_beside};
 
 use crate::checking::check_keys;
-use crate::objects::flags::non_empty;
+use crate::objects::definition::Definition;
+use crate::objects::flags::{flag_or_default, non_empty};
 use crate::objects::options::options_of;
 use crate::objects::pool::PoolReader;
 use crate::objects::reservation::ReservationReader;
+use crate::objects::scope::part_scope;
 use crate::objects::times::check_times;
 use crate::tables::ObjectKind;
-use kd_config::{Prefix, Reservations, Subnet, Times};
+use kd_config::{Pool, Prefix, Reservation, Reservations, Subnet, Times};
 use kd_json::objects::faults::SettingsFault;
 use kd_json::objects::lists::{EntryReader, entries_of};
 use kd_json::objects::subnet::prefix_in;
@@ -33,18 +37,22 @@ pub(crate) struct Above {
     pub(crate) times: Times,
     // T1 and T2 are calculated with Kea's rounding.
     pub(crate) calculated: bool,
+    // Reservations are looked for outside pools alone, unless a subnet says otherwise.
+    pub(crate) outside: bool,
 }
 
 // Reads subnets.
 #[derive(Clone, Copy)]
-pub(crate) struct SubnetReader {
+pub(crate) struct SubnetReader<'a> {
     pub(crate) above: Above,
+    // The definitions of options.
+    pub(crate) known: &'a [Definition],
 }
 
-impl EntryReader for SubnetReader {
+impl<'a> EntryReader for SubnetReader<'a> {
     type Entry = Subnet;
 
-    ghost means = { λ reader. kea_subnet reader.above };
+    ghost means = { λ reader. kea_subnet reader.above reader.known.now };
 
     #[tactic(auto, unfolding(crate::specs::Subnet::kea_subnet))]
     fn read(&self, alloc: Global, value: &Value, at: &Place<'_>) -> Result<Subnet, SettingsFault> {
@@ -57,7 +65,22 @@ impl EntryReader for SubnetReader {
         };
         check_interface(alloc, value, at, self.above.server, prefix)?;
         let class = text_or_none(alloc, value, at, "client-class")?;
-        subnet_of_lists(alloc, value, at, prefix, non_empty(class))
+        let outside = flag_or_default(
+            alloc,
+            value,
+            at,
+            "reservations-out-of-pool",
+            self.above.outside,
+        )?;
+        subnet_of_lists(
+            alloc,
+            value,
+            at,
+            self.known,
+            outside,
+            prefix,
+            non_empty(class),
+        )
     }
 }
 
@@ -108,20 +131,31 @@ fn check_interface(
     }
 }
 
-// Builds the subnet of a prefix and a class with the lists in a value.
+// Builds the subnet of a prefix and a class with the lists in a value, by these definitions of
+// options.
 #[tactic(auto, unfolding(crate::specs::Subnet::kea_subnet_with))]
 fn subnet_of_lists(
     alloc: Global,
     value: &Value,
     at: &Place<'_>,
+    known: &[Definition],
+    outside: bool,
     prefix: Prefix,
     class: Option<Bytes>,
 ) -> Result<Subnet, SettingsFault>
-    ensures { Means Memory result (kea_subnet_with prefix class (view value.now)) }
+    ensures { Means Memory result
+        (kea_subnet_with known.now outside prefix class (view value.now)) }
 {
-    let pools = entries_of(alloc, value, at, "pools", 64, &PoolReader)?;
+    let pools = entries_of(alloc, value, at, "pools", 64, &PoolReader { known })?;
     let reservations = entries_of(alloc, value, at, "reservations", 4096, &ReservationReader)?;
-    let options = options_of(alloc, value, at, false)?;
+    check_outside(
+        alloc,
+        at,
+        outside,
+        pools.as_slice(),
+        reservations.as_slice(),
+    )?;
+    let options = options_of(alloc, value, at, part_scope(known))?;
     let reservations = Reservations::own(alloc, reservations.into_vec())?;
     Ok(Subnet {
         prefix,
@@ -130,4 +164,36 @@ fn subnet_of_lists(
         reservations,
         options,
     })
+}
+
+// Checks that reservations may stand beside pools: if they are looked for outside pools alone, that
+// no pool has the address of one.
+fn check_outside(
+    alloc: Global,
+    at: &Place<'_>,
+    outside: bool,
+    pools: &[Pool],
+    reservations: &[Reservation],
+) -> Result<(), SettingsFault>
+    ensures { Means Memory result (must (stand_beside outside pools.now reservations.now)) }
+{
+    if !outside || are_outside(pools, reservations) {
+        Ok(())
+    } else {
+        Err(unknown(alloc, at, "reservations-out-of-pool"))
+    }
+}
+
+// Reports whether no pool has the address of a reservation.
+fn are_outside(pools: &[Pool], reservations: &[Reservation]) -> bool
+    ensures { result ≡ list_all (lies_outside pools.now) reservations.now }
+{
+    reservations.iter().all(|it| !is_inside(pools, it.address))
+}
+
+// Reports whether a pool has an address.
+fn is_inside(pools: &[Pool], address: u32) -> bool
+    ensures { result ≡ list_any (λ pool. has pool.range address) pools.now }
+{
+    pools.iter().any(|pool| pool.range.contains(address))
 }
