@@ -108,6 +108,20 @@ class_line name whole (classes.UnknownMember number) =
 class_line name whole classes.TooMany =
     said_line name (codes "/Dhcp4/client-classes") (codes "there are more than 256 classes")
 
+-- the path of a fault that has one, and what is wrong there
+abbrev pub words_at_path : ConfigFault → Option (List ℕ × List ℕ)
+words_at_path (faults.Missing path) = Some (string_bytes path, codes "this key is missing")
+words_at_path (faults.Unknown path) = Some (string_bytes path, codes "this key is not known")
+words_at_path (faults.BadValue path) =
+    Some (string_bytes path, codes "this value is not allowed")
+words_at_path (faults.PoolOutside path) =
+    Some (string_bytes path, codes "not inside the subnet")
+words_at_path (faults.Overlap path) =
+    Some (string_bytes path, codes "an earlier pool has one of these addresses")
+words_at_path (faults.DuplicateReservation path) =
+    Some (string_bytes path, codes "an earlier reservation has the same")
+words_at_path fault = None
+
 -- the report of a text and of the fault found in it
 abbrev pub IsReport : List ℕ → List ℕ → ConfigFault → List ℕ → Type 0
 IsReport name text faults.Json report = IsJsonReport name text (value_spelled text) report

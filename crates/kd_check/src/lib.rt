@@ -5,17 +5,24 @@
 //! the place where a text stops being JSON, and the digits of a number that is not an integer. The
 //! words for the faults are in `specs/Words.antt`, the value of the configuration that a fault is
 //! about in `specs/Lookup.antt`, the mark under a place in `specs/Mark.antt`, and the words for the
-//! other steps of a start in `specs/Findings.antt`.
+//! other steps of a start in `specs/Findings.antt`. Where a path leads in a text is defined in
+//! `specs/Place.antt` (with a law in `specs/PlaceLaws.antt`), and the report that shows it in
+//! `specs/Located.antt`.
 #![tactic(auto)]
 
 mod class;
 pub mod findings;
+pub mod laws;
 mod line;
+mod located;
 mod lookup;
 mod mark;
+mod place;
 mod report;
 mod unread;
 mod value;
 mod words;
 
-pub use report::config_report;
+pub use located::{located_report, located_value_report};
+pub use place::place_of;
+pub use report::{config_report, path_words};

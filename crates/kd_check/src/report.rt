@@ -1,5 +1,5 @@
-ghost use Rattle.std.specs.Prelude.{IfOk, string_bytes};
-ghost use Rattle.kd_check.specs.Report.{IsReport};
+ghost use Rattle.std.specs.Prelude.{◌≡◌, IfOk, option_map, string_bytes};
+ghost use Rattle.kd_check.specs.Report.{IsReport, words_at_path};
 
 use crate::class::{class_line_in, test_report_in, tokens_line_in};
 use crate::line::{line_about, line_of_all};
@@ -8,6 +8,40 @@ use crate::unread::json_report_in;
 use crate::value::value_line;
 use kd_json::ConfigFault;
 use std::alloc::{AllocError, Global};
+
+// What is wrong at a path.
+const MISSING: &str = "this key is missing";
+
+const UNKNOWN: &str = "this key is not known";
+
+const NOT_ALLOWED: &str = "this value is not allowed";
+
+const OUTSIDE: &str = "not inside the subnet";
+
+const OVERLAP: &str = "an earlier pool has one of these addresses";
+
+const RESERVED_TWICE: &str = "an earlier reservation has the same";
+
+/// Returns the path of a fault that has one, and what is wrong there, in the words of
+/// `config_report`.
+pub fn path_words(fault: &ConfigFault) -> Option<(&String, &'static str)>
+    ensures { option_map (λ it. (string_bytes it.0.now, it.1.now)) result
+        ≡ words_at_path fault.now }
+{
+    match fault {
+        ConfigFault::Missing(path) => Some((path, MISSING)),
+        ConfigFault::Unknown(path) => Some((path, UNKNOWN)),
+        ConfigFault::BadValue(path) => Some((path, NOT_ALLOWED)),
+        ConfigFault::PoolOutside(path) => Some((path, OUTSIDE)),
+        ConfigFault::Overlap(path) => Some((path, OVERLAP)),
+        ConfigFault::DuplicateReservation(path) => Some((path, RESERVED_TWICE)),
+        ConfigFault::Json => None,
+        ConfigFault::Expression(_, _) => None,
+        ConfigFault::Tokens(_, _) => None,
+        ConfigFault::Class(_) => None,
+        ConfigFault::Memory => None,
+    }
+}
 
 /// Reports in words what is wrong with the text of a configuration: one or three lines, each with
 /// its line feed. The first begins with the name that the operator gave. A fault that was not found
@@ -27,26 +61,13 @@ pub fn config_report(
 {
     match fault {
         ConfigFault::Json => json_report_in(alloc, name, text),
-        ConfigFault::Missing(path) => line_about(alloc, name, path, "this key is missing"),
-        ConfigFault::Unknown(path) => line_about(alloc, name, path, "this key is not known"),
-        ConfigFault::BadValue(path) => {
-            value_line(alloc, name, text, path, "this value is not allowed")
-        }
-        ConfigFault::PoolOutside(path) => {
-            value_line(alloc, name, text, path, "not inside the subnet")
-        }
-        ConfigFault::Overlap(path) => {
-            let words = "an earlier pool has one of these addresses";
-            value_line(alloc, name, text, path, words)
-        }
+        ConfigFault::Missing(path) => line_about(alloc, name, path, MISSING),
+        ConfigFault::Unknown(path) => line_about(alloc, name, path, UNKNOWN),
+        ConfigFault::BadValue(path) => value_line(alloc, name, text, path, NOT_ALLOWED),
+        ConfigFault::PoolOutside(path) => value_line(alloc, name, text, path, OUTSIDE),
+        ConfigFault::Overlap(path) => value_line(alloc, name, text, path, OVERLAP),
         ConfigFault::DuplicateReservation(path) => {
-            value_line(
-                alloc,
-                name,
-                text,
-                path,
-                "an earlier reservation has the same",
-            )
+            value_line(alloc, name, text, path, RESERVED_TWICE)
         }
         ConfigFault::Expression(number, why) => { test_report_in(alloc, name, text, *number, *why) }
         ConfigFault::Tokens(number, why) => tokens_line_in(alloc, name, text, *number, *why),

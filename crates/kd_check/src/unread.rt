@@ -39,7 +39,7 @@ fn unread_report_in(
 }
 
 // Returns how a place in a text is called.
-fn title_of_place(alloc: Global, row: usize, column: usize) -> Result<String, AllocError>
+pub(crate) fn title_of_place(alloc: Global, row: usize, column: usize) -> Result<String, AllocError>
     ensures { IfOk result (λ title. string_bytes title ≡ place_title row column) }
 {
     format!(in alloc; "line {row}, column {column}")

@@ -29,7 +29,11 @@ pub(crate) fn value_line(
 }
 
 // Ends a line with the value that it is about, if there is one.
-fn ended_with(alloc: Global, mut line: String, value: Option<&Value>) -> Result<String, AllocError>
+pub(crate) fn ended_with(
+    alloc: Global,
+    mut line: String,
+    value: Option<&Value>,
+) -> Result<String, AllocError>
     ensures { IfOk result (λ whole. IsValueLine (string_bytes line)
         (option_map (λ v. view v.now) value.entry) (string_bytes whole)) }
 {
@@ -41,7 +45,7 @@ fn ended_with(alloc: Global, mut line: String, value: Option<&Value>) -> Result<
 }
 
 // Returns how a path is called in a report.
-fn title_of(path: &str) -> &str
+pub(crate) fn title_of(path: &str) -> &str
     ensures { result.now ≡ path_title path.now }
 {
     if path == "-" { "the whole text" } else { path }
