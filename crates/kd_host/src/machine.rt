@@ -4,14 +4,15 @@ use kd_check::findings::{SocketTrouble, StoreTrouble};
 use kd_commands::{Files, Form, Listening};
 use kd_config::Config;
 use kd_database::{left_out, let_go, rows_in_bytes, store_from};
-use kd_io::{
-    Appended, Copied, LookFault, Output, Sending, Socket, StartFault, configuration, copy_at,
-    journal, kea_configuration, kea_start_words, seconds_of, start_words, try_database, try_socket,
-};
+use kd_io::{Appended, Copied, LookFault, Output, Sending, Socket, copy_at, journal, seconds_of};
 use kd_keeps::{Cause, Opened, StoreFault, Volatile};
 use kd_loops::EndFailed;
 use kd_program::Host;
 use kd_rows::Row;
+use kd_start::{
+    StartFault, configuration, kea_configuration, kea_remarks, kea_start_words, start_words,
+    try_database, try_socket,
+};
 use kd_store::Store;
 use sqlite::{FileFrom, FileStore, Start};
 use sqlite_disk::{Disk, Memory};
@@ -171,6 +172,13 @@ impl<'a, F: Start> Host for Machine<'a, F, Below<F>> {
         match (files.form, file) {
             (Form::Kea(_), Some(path)) => kea_start_words(self.rt, path, fault),
             (_, file) => start_words(self.rt, file, path_if_given(&files.token_dir), fault),
+        }
+    }
+
+    fn remarks(&self, files: &Files) -> Result<String, AllocError> {
+        match (files.form, path_if_given(&files.config)) {
+            (Form::Kea(_), Some(path)) => kea_remarks(self.rt, path),
+            _ => Ok(String::new(self.rt.alloc())),
         }
     }
 

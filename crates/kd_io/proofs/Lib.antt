@@ -1,4 +1,3 @@
 mod Consumed
 mod Looks
-mod Starting
 mod Wholes

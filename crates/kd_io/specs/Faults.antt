@@ -1,15 +1,12 @@
--- The numbers of the faults of files and of starting.
+-- The numbers of the faults of files and of looks.
 use Rattle.std.specs.Prelude.{ℕ}
 use Rattle.kd_io.specs.declared.files.InputFault.{InputFault}
-use Rattle.kd_json.specs.Faults.{config_fault_number}
 use Rattle.kd_keeps.specs.Fault.{store_fault_number}
 use Rattle.kd_io.specs.declared.files.InputFault.TheVariants as faults
 use Rattle.kd_io.specs.declared.look.LookFault.{LookFault}
 use Rattle.kd_io.specs.declared.look.LookFault.TheVariants as looks
-use Rattle.kd_io.specs.declared.start.StartFault.{StartFault}
 use Rattle.std.specs.declared.io.ErrorKind.{ErrorKind}
 use Rattle.std.specs.declared.io.ErrorKind.TheVariants as kinds
-use Rattle.kd_io.specs.declared.start.StartFault.TheVariants as starts
 
 -- the number of each fault
 abbrev pub input_fault_number : InputFault → ℕ
@@ -27,8 +24,3 @@ look_fault_number (looks.Input fault) = input_fault_number fault
 look_fault_number looks.Unsettled = 82
 look_fault_number looks.NoTable = 80
 look_fault_number (looks.Store fault) = store_fault_number fault
-
--- the number of each fault of starting: that of the fault inside
-abbrev pub start_fault_number : StartFault → ℕ
-start_fault_number (starts.Input fault) = input_fault_number fault
-start_fault_number (starts.Config fault) = config_fault_number fault

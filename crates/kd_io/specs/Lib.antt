@@ -1,5 +1,4 @@
 pub mod Faults
 pub mod Looking
 pub mod Sending
-pub mod Start
 pub mod Taking

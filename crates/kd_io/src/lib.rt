@@ -2,10 +2,9 @@
 //!
 //! What this layer promises to the one above: a reader is the source of a replay with the reader's
 //! bytes, and a writer is a sink with the writer's bytes; each has failed if and only if one of its
-//! calls has failed. A file is read whole, and the token files of a folder are read by their names;
-//! what a file system returns, no proof knows. A database that another process writes is read
-//! without a lock (`specs/Looking.antt`). A socket is the link of a server (`specs/Sending.antt`);
-//! what it receives and sends, no proof knows either.
+//! calls has failed. A file is read whole; what a file system returns, no proof knows. A database
+//! that another process writes is read without a lock (`specs/Looking.antt`). A socket is the link
+//! of a server (`specs/Sending.antt`); what it receives and sends, no proof knows either.
 #![tactic(auto)]
 
 mod activation;
@@ -14,18 +13,14 @@ mod files;
 mod link;
 mod look;
 mod source;
-mod start;
 mod streams;
-mod trying;
 mod watching;
 
 pub use activation::inherited_socket;
 pub use appending::{Appended, journal};
-pub use files::{InputFault, MOST_BYTES, read_file, read_whole, token_files};
-pub use link::{Sending, Socket, seconds_of, target};
+pub use files::{InputFault, MOST_BYTES, read_file, read_whole};
+pub use link::{Sending, Socket, place_at, seconds_of, target};
 pub use look::{Copied, FilePart, LookFault, Watched, settled_copy};
 pub use source::read_source;
-pub use start::{StartFault, config_of, configuration, kea_configuration};
 pub use streams::{Input, Output};
-pub use trying::{kea_start_words, start_words, try_database, try_socket};
 pub use watching::copy_at;

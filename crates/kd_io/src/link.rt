@@ -51,8 +51,8 @@ pub fn target(sending: Sending, sender: Option<SocketAddr>, to: Destination) -> 
     }
 }
 
-// Makes the socket address with this IPv4 address, a number in host order, and this port.
-pub(crate) fn place_at(address: u32, port: u16) -> SocketAddr
+/// Returns the socket address with this IPv4 address, a number in host order, and this port.
+pub fn place_at(address: u32, port: u16) -> SocketAddr
     ensures { HasAddressAndPort address port result }
 {
     SocketAddr::new(IpAddr::V4(Ipv4Addr::from(address)), port)

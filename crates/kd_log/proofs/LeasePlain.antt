@@ -2,9 +2,9 @@
 -- feed, and all but the last have no space.
 use Rattle.std.proofs.Common.{Bool, true, false, refl}
 use Rattle.std.specs.Prelude.{codes}
+use Rattle.kd_listing.specs.Leases.{word_of_live, word_of_state}
 use Rattle.kd_rows.specs.declared.row.State.{State}
 use Rattle.kd_rows.specs.declared.row.State.TheVariants as states
-use Rattle.kd_server.specs.Leases.{word_of_live, word_of_state}
 use Rattle.kd_text.specs.Words.{HasNo}
 use Rattle.kd_text.proofs.Plain.{from_is_plain, is_plain}
 

@@ -1,10 +1,10 @@
 -- The line of a lease: its words with a space after each but the last, and a line feed.
 use Rattle.std.proofs.Common.{◌≡◌, ℕ, ◌^◌, ◌<◌, List, [], ◌∷◌, ◌++◌, refl, arith, append_assoc}
 use Rattle.std.specs.Prelude.{codes, decimal}
+use Rattle.kd_listing.specs.Leases.{lease_line, row_text, word_of_live, word_of_state}
+use Rattle.kd_listing.specs.declared.leases.Lease.{Lease}
 use Rattle.kd_rows.specs.Row.{IsInRange}
 use Rattle.kd_rows.specs.declared.row.Row.{Row}
-use Rattle.kd_server.specs.Leases.{lease_line, row_text, word_of_live, word_of_state}
-use Rattle.kd_server.specs.declared.leases.Lease.{Lease}
 use Rattle.kd_text.specs.Text.{address_text, bytes_text}
 use Rattle.kd_text.specs.Words.{HasNo, IsCutOff}
 use Rattle.kd_text.proofs.Cuts.{cut_is}

@@ -8,13 +8,13 @@ use Rattle.std.proofs.lemmas.Bool.Decides.{nat_tests}
 use Rattle.std.proofs.lemmas.List.{append-nil, map-append}
 use Rattle.std.proofs.lemmas.Map.Keys.{IsDistinct-push}
 use Rattle.std.proofs.lemmas.Map.Views.{Contains-from_any}
+use Rattle.kd_listing.specs.declared.leases.Lease.{Lease}
 use Rattle.kd_loops.specs.Lines.{lines_of}
 use Rattle.kd_rows.specs.Row.{IsInRange}
 use Rattle.kd_rows.specs.Table.{Rise, row_at, with_row, with_rows}
 use Rattle.kd_rows.specs.declared.row.Row.{Row}
 use Rattle.kd_rows.proofs.Several.{with_rows_push}
 use Rattle.kd_rows.proofs.Sets.{all-with_row, rise-with_row, row_at-with_row}
-use Rattle.kd_server.specs.declared.leases.Lease.{Lease}
 use Rattle.kd_log.specs.Import.{AreLeaseLines, IsBadLine, IsLeaseLine, IsNoLeaseLine, IsTable, lease_addresses}
 use Rattle.kd_log.specs.LeaseParts.{by_address}
 use Rattle.kd_log.proofs.Zipped.{not_before, zip_head, zip_nil, zip_push, zip_split}

@@ -5,12 +5,12 @@ use Rattle.std.specs.List.{All, AllByRecursion, AllZip, IsDistinct, flat_map}
 use Rattle.std.proofs.lemmas.Bool.{ne_eqb}
 use Rattle.std.proofs.lemmas.Bool.Decides.{nat_tests}
 use Rattle.std.proofs.lemmas.List.Elements.{All-head, All-tail}
+use Rattle.kd_listing.specs.Leases.{lease_line, lease_of_row, leases_of_rows}
+use Rattle.kd_listing.specs.declared.leases.Lease.{Lease}
 use Rattle.kd_loops.specs.Lines.{lines_of}
 use Rattle.kd_loops.proofs.Looking.{lines_line}
 use Rattle.kd_rows.specs.Table.{RiseFrom, latest_of, with_row, with_rows}
 use Rattle.kd_rows.specs.declared.row.Row.{Row}
-use Rattle.kd_server.specs.Leases.{lease_line, lease_of_row, leases_of_rows}
-use Rattle.kd_server.specs.declared.leases.Lease.{Lease}
 use Rattle.kd_log.specs.Import.{IsLeaseLine, IsStorable, lease_addresses}
 use Rattle.kd_log.specs.Laws.{PrintedIsRead}
 use Rattle.kd_log.proofs.Printed.{body, body_plain, printed}

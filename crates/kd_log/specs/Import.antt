@@ -3,12 +3,12 @@
 use Rattle.std.specs.Prelude.{◌≡◌, ℕ, ◌+◌, ◌^◌, ◌<◌, List, [], ◌∷◌, ◌++◌, map, length, nat_eq, Contains, ◌⊎◌}
 use Rattle.std.specs.List.{AllZip, IsDistinct}
 use Rattle.hex.specs.Hex.{IsBytes}
+use Rattle.kd_listing.specs.Leases.{lease_line}
+use Rattle.kd_listing.specs.declared.leases.Lease.{Lease}
 use Rattle.kd_loops.specs.Lines.{lines_of}
 use Rattle.kd_rows.specs.Row.{IsInRange}
 use Rattle.kd_rows.specs.Table.{with_rows}
 use Rattle.kd_rows.specs.declared.row.Row.{Row}
-use Rattle.kd_server.specs.Leases.{lease_line}
-use Rattle.kd_server.specs.declared.leases.Lease.{Lease}
 use Rattle.kd_log.specs.declared.leases.fault.ImportFault.{ImportFault}
 use Rattle.kd_log.specs.declared.leases.fault.ImportFault.TheVariants as faults
 

@@ -2,12 +2,12 @@
 use Rattle.std.specs.Prelude.{ℕ, List, IsTrue, ◌⊎◌}
 use Rattle.std.specs.List.{All, AllByRecursion, AllZip, flat_map}
 use Rattle.kd_event.specs.declared.event.Handled.{Handled}
+use Rattle.kd_listing.specs.Leases.{lease_line, leases_of_rows}
 use Rattle.kd_loops.specs.Lines.{lines_of}
 use Rattle.kd_loops.specs.Serving.{Answered, text_of}
 use Rattle.kd_loops.specs.Text.{line_of}
 use Rattle.kd_rows.specs.Table.{Rise}
 use Rattle.kd_rows.specs.declared.row.Row.{Row}
-use Rattle.kd_server.specs.Leases.{lease_line, leases_of_rows}
 use Rattle.kd_log.specs.Import.{IsStorable, IsTable}
 use Rattle.kd_log.specs.Logged.{IsHandledLine, IsWritable, is_remark}
 

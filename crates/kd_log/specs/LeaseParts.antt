@@ -1,8 +1,8 @@
 -- Helpers of private contracts only: the words of a line of a lease, and rows by address.
 use Rattle.std.specs.Prelude.{◌≡◌, ℕ, List, map, decimal}
+use Rattle.kd_listing.specs.Leases.{word_of_live, word_of_state}
+use Rattle.kd_listing.specs.declared.leases.Lease.{Lease}
 use Rattle.kd_rows.specs.declared.row.Row.{Row}
-use Rattle.kd_server.specs.Leases.{word_of_live, word_of_state}
-use Rattle.kd_server.specs.declared.leases.Lease.{Lease}
 use Rattle.kd_text.specs.Text.{address_text, bytes_text}
 use Rattle.kd_log.specs.Import.{IsStorable}
 use Rattle.kd_log.specs.declared.leases.words.Words.{Words}

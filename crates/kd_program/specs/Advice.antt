@@ -6,13 +6,15 @@ use Rattle.std.specs.List.{find, flat_map, list_any}
 use Rattle.std.specs.Str.{bytes_eq}
 use Rattle.kd_classes.specs.Order.{built_in}
 use Rattle.kd_classes.specs.declared.definition.ClassDef.{ClassDef}
+use Rattle.kd_commands.specs.declared.orders.Form.{Form}
+use Rattle.kd_commands.specs.declared.orders.Form.TheVariants as forms
 use Rattle.kd_config.specs.Address.{prefix_size}
 use Rattle.kd_config.specs.Apart.{has}
 use Rattle.kd_config.specs.Configuration.{Configuration}
 use Rattle.kd_config.specs.declared.pool.Pool.{Pool}
 use Rattle.kd_config.specs.declared.prefix.Prefix.{Prefix}
 use Rattle.kd_config.specs.declared.subnet.Subnet.{Subnet}
-use Rattle.kd_io.specs.declared.start.StartFault.{StartFault}
+use Rattle.kd_start.specs.declared.start.StartFault.{StartFault}
 use Rattle.kd_names.specs.Values.{sign_text}
 use Rattle.kd_program.specs.Banner.{subnet_addresses}
 use Rattle.kd_text.specs.Text.{address_text, prefix_text}
@@ -142,11 +144,18 @@ abbrev pub size_line : List ℕ → Configuration → List ℕ
 size_line name config =
     size_text name (length config.subnets) (subnet_addresses config.subnets)
 
+-- remarks on the keys of a file: there are none on one of our own form
+abbrev pub AreRemarks : Form → List ℕ → Type 0
+AreRemarks forms.Own remarks = remarks ≡ []
+AreRemarks (forms.Kea server) remarks = Unit {0}
+
 -- a text is about the configuration in a file, if one is named: how much it contains and what is
 -- probably a mistake, where this machine may have been found to have no such address as the
--- server's; or some words for the fault
-abbrev pub IsAboutConfig : Option (List ℕ) → Result Configuration StartFault → List ℕ → Type 0
-IsAboutConfig file (Ok config) text =
-    (is_missing : Bool)
-    × (text ≡ size_line (name_of file) config ++ advice_lines (name_of file) config is_missing)
-IsAboutConfig file (Err fault) text = Unit {0}
+-- server's, and remarks on its keys; or some words for the fault
+abbrev pub IsAboutConfig : Form → Option (List ℕ) → Result Configuration StartFault → List ℕ → Type 0
+IsAboutConfig form file (Ok config) text =
+    (is_missing : Bool) × (remarks : List ℕ) × AreRemarks form remarks
+    × (text
+    ≡ (size_line (name_of file) config ++ advice_lines (name_of file) config is_missing)
+    ++ remarks)
+IsAboutConfig form file (Err fault) text = Unit {0}

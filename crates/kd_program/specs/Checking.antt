@@ -6,10 +6,11 @@ use Rattle.kd_check.specs.declared.findings.StoreTrouble.{StoreTrouble}
 use Rattle.kd_check.specs.declared.findings.StoreTrouble.TheVariants as troubles
 use Rattle.kd_check.specs.declared.findings.SocketTrouble.{SocketTrouble}
 use Rattle.kd_config.specs.Configuration.{Configuration}
-use Rattle.kd_io.specs.Faults.{look_fault_number, start_fault_number}
+use Rattle.kd_io.specs.Faults.{look_fault_number}
+use Rattle.kd_start.specs.Faults.{start_fault_number}
 use Rattle.kd_io.specs.declared.look.LookFault.{LookFault}
 use Rattle.kd_io.specs.declared.look.LookFault.TheVariants as looks
-use Rattle.kd_io.specs.declared.start.StartFault.{StartFault}
+use Rattle.kd_start.specs.declared.start.StartFault.{StartFault}
 use Rattle.kd_program.specs.Report.{IsCheckReport}
 use Rattle.kd_program.specs.Streams.{At, ShowsOrBreaks, Starves}
 use Rattle.kd_commands.specs.declared.orders.Place.{Place}
@@ -111,7 +112,7 @@ module _ {H N U L R : Type 0} (h : Hosts H N U L R) where
     pub socket : Result Bool SocketTrouble
     pub socket_found : h.reaches after.host place.bind place.port socket
     pub shown : ((report : List ℕ)
-        × IsCheckReport (option_map string_bytes files.config) config
+        × IsCheckReport files.form (option_map string_bytes files.config) config
         (option_map string_bytes files.store) store place socket report
         × ShowsOrBreaks report
         (check_status (config_finding config ∷ finding_number store ∷ socket_finding socket ∷ []))

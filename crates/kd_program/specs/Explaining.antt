@@ -8,7 +8,7 @@ use Rattle.kd_loops.specs.Faults.{replay_fault_number, serve_fault_number}
 use Rattle.kd_loops.specs.declared.fault.ReplayFault.{ReplayFault}
 use Rattle.kd_loops.specs.declared.fault.ServeFault.{ServeFault}
 use Rattle.kd_rows.specs.declared.row.Row.{Row}
-use Rattle.kd_server.specs.Leases.{IsNoList}
+use Rattle.kd_server.specs.Looks.{IsNoList}
 use Rattle.kd_server.specs.Trial.{Trying}
 use Rattle.kd_answers.specs.Status.{replay_status_of}
 use Rattle.kd_why.specs.Inquiring.{IsExplainedAt, IsNotExplained}

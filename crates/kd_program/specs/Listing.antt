@@ -5,6 +5,7 @@ use Rattle.std.specs.List.{flat_map}
 use Rattle.kd_commands.specs.declared.orders.View.{View}
 use Rattle.kd_commands.specs.declared.orders.View.TheVariants as views
 use Rattle.kd_config.specs.Configuration.{Configuration}
+use Rattle.kd_listing.specs.Leases.{lease_line, leases_of_rows}
 use Rattle.kd_pools.specs.Printed.{lines_text, metrics_text}
 use Rattle.kd_pools.specs.Uses.{subnet_uses}
 use Rattle.kd_program.specs.Explaining.{ExplainsWord}
@@ -13,7 +14,7 @@ use Rattle.kd_loops.specs.Faults.{serve_fault_number}
 use Rattle.kd_loops.specs.declared.fault.ServeFault.{ServeFault}
 use Rattle.kd_rows.specs.Table.{latest_of}
 use Rattle.kd_rows.specs.declared.row.Row.{Row}
-use Rattle.kd_server.specs.Leases.{IsNoList, lease_line, leases_of_rows}
+use Rattle.kd_server.specs.Looks.{IsNoList}
 
 -- a text about rows at a time is shown, by whether their store has failed, or it is reported why
 -- there is none

@@ -4,7 +4,7 @@ use Rattle.std.specs.Prelude.{IsTrue, List, [], ◌∷◌, ◌++◌, Option, Non
 use Rattle.std.specs.List.{flat_map, list_all}
 use Rattle.kd_program.specs.Advice.{IsAboutConfig}
 use Rattle.kd_config.specs.Configuration.{Configuration}
-use Rattle.kd_io.specs.declared.start.StartFault.{StartFault}
+use Rattle.kd_start.specs.declared.start.StartFault.{StartFault}
 use Rattle.kd_check.specs.Findings.{socket_trouble_words, store_trouble_words}
 use Rattle.kd_check.specs.declared.findings.SocketTrouble.{SocketTrouble}
 use Rattle.kd_check.specs.declared.findings.StoreTrouble.TheVariants as troubles
@@ -13,6 +13,7 @@ use Rattle.kd_io.specs.declared.look.LookFault.TheVariants as looks
 use Rattle.kd_keeps.specs.declared.fault.StoreFault.TheVariants as stores
 use Rattle.kd_names.specs.Values.{sign_text}
 use Rattle.kd_program.specs.Banner.{place_text}
+use Rattle.kd_commands.specs.declared.orders.Form.{Form}
 use Rattle.kd_commands.specs.declared.orders.Place.{Place}
 use Rattle.kd_program.specs.declared.checking.SeenRows.{SeenRows}
 use Rattle.kd_program.specs.declared.checking.StoreFinding.{StoreFinding}
@@ -113,13 +114,13 @@ socket_text (Err trouble) = socket_trouble_words trouble ++ codes "\n"
 unfoldable pub socket_lines : Place → Result Bool SocketTrouble → List ℕ
 socket_lines place answer = place_text place.bind place.port ++ codes ": " ++ socket_text answer
 
--- a report: lines about the configuration in a file, if one is named, those about the store at a
+-- a report: lines about the configuration in a file of a form, if one is named, those about the store at a
 -- path, if there is a path, and those about the socket, as a terminal may show them
-pub record IsCheckReport (file : Option (List ℕ)) (config : Result Configuration StartFault)
+pub record IsCheckReport (form : Form) (file : Option (List ℕ)) (config : Result Configuration StartFault)
     (path : Option (List ℕ)) (store : StoreFinding) (place : Place)
     (socket : Result Bool SocketTrouble) (report : List ℕ) : Type 0 where
   pub about_config : List ℕ
-  pub configured : IsAboutConfig file config about_config
+  pub configured : IsAboutConfig form file config about_config
   pub left_out : Option ℕ
   pub shown : report
       ≡ shown_text (about_config ++ store_lines path store left_out ++ socket_lines place socket)

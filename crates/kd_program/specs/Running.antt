@@ -5,7 +5,8 @@ use Rattle.kd_answers.specs.Printed.{Answers}
 use Rattle.kd_answers.specs.Status.{replay_status_of, serve_status_of}
 use Rattle.kd_answers.specs.declared.printed.Printed.{Printed}
 use Rattle.kd_config.specs.Configuration.{Configuration}
-use Rattle.kd_io.specs.Faults.{look_fault_number, start_fault_number}
+use Rattle.kd_io.specs.Faults.{look_fault_number}
+use Rattle.kd_start.specs.Faults.{start_fault_number}
 use Rattle.kd_event.specs.declared.ports.Ports.{Ports}
 use Rattle.kd_keeps.specs.Fault.{store_fault_number}
 use Rattle.kd_keeps.specs.Reading.{AreRead}

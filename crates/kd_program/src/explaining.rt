@@ -1,7 +1,7 @@
 ghost use Rattle.std.specs.Prelude.{◌≡◌, IfErr, IfOk, false};
 ghost use Rattle.kd_program.specs.Explaining.{ExplainsLine, ExplainsWord, ShowsWhy, standard_trial};
 ghost use Rattle.kd_program.specs.Streams.{streams};
-ghost use Rattle.kd_server.specs.Leases.{IsNoList};
+ghost use Rattle.kd_server.specs.Looks.{IsNoList};
 ghost use Rattle.kd_why.specs.Saying.{ExplainsEvent};
 
 use crate::ends::StandardEnds;

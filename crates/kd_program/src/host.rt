@@ -1,10 +1,11 @@
 use kd_check::findings::{SocketTrouble, StoreTrouble};
 use kd_commands::{Files, Listening};
 use kd_config::Config;
-use kd_io::{Appended, LookFault, StartFault};
+use kd_io::{Appended, LookFault};
 use kd_keeps::{Keeps, Opened, StoreFault};
 use kd_loops::{EndFailed, Link, Sink};
 use kd_rows::Row;
+use kd_start::StartFault;
 use std::alloc::AllocError;
 
 /// What a command finds outside its arguments and the standard streams.
@@ -17,7 +18,7 @@ pub trait Host {
     ghost use Rattle.kd_commands.specs.declared.orders.Listening.{Listening};
     ghost use Rattle.kd_config.specs.Configuration.{Configuration};
     ghost use Rattle.kd_io.specs.declared.look.LookFault.{LookFault};
-    ghost use Rattle.kd_io.specs.declared.start.StartFault.{StartFault};
+    ghost use Rattle.kd_start.specs.declared.start.StartFault.{StartFault};
     ghost use Rattle.kd_keeps.specs.Reading.{AreRead};
     ghost use Rattle.kd_keeps.specs.declared.fault.StoreFault.{StoreFault};
     ghost use Rattle.kd_loops.specs.declared.ends.EndFailed.{EndFailed};
@@ -152,6 +153,14 @@ pub trait Host {
     ///
     /// Out of memory.
     fn start_words(&self, files: &Files, fault: &StartFault) -> Result<String, AllocError>;
+
+    /// Returns remarks on the keys of the file of a configuration that has no fault: a line for each
+    /// key that is skipped because no client notices it, with its line feed.
+    ///
+    /// # Errors
+    ///
+    /// Out of memory.
+    fn remarks(&self, files: &Files) -> Result<String, AllocError>;
 
     /// Reports whether the database at a path exists. Nothing is created.
     ///

@@ -1,22 +1,24 @@
 ghost use Rattle.std.specs.Prelude.{◌≡◌, ◌<◌, ◌^◌, IfErr, IfOk, MatchResult, false, max, string_bytes};
 ghost use Rattle.std.specs.List.{flat_map};
+ghost use Rattle.kd_listing.specs.Leases.{lease_line, leases_of_rows};
 ghost use Rattle.kd_pools.specs.Printed.{lines_text, metrics_text};
 ghost use Rattle.kd_pools.specs.Uses.{subnet_uses};
 ghost use Rattle.kd_program.specs.Listing.{ShowsView};
 ghost use Rattle.kd_program.specs.Streams.{ShowsOrBreaks, Tells, streams, written_to};
 ghost use Rattle.kd_loops.specs.Faults.{serve_fault_number};
 ghost use Rattle.kd_rows.specs.Table.{latest_of};
-ghost use Rattle.kd_server.specs.Leases.{IsNoList, lease_line, leases_of_rows};
+ghost use Rattle.kd_server.specs.Looks.{IsNoList};
 
 use crate::ends::StandardEnds;
 use crate::explaining::explain_word;
 use crate::printing::{refuse, show};
 use kd_commands::View;
 use kd_config::Config;
+use kd_listing::lease_lines;
 use kd_loops::{ServeFault, Sink, Source};
 use kd_pools::{SubnetUse, use_lines, use_metrics, uses_of};
 use kd_rows::Rows;
-use kd_server::{lease_lines, leases_at, time_of_look};
+use kd_server::{leases_at, time_of_look};
 use std::alloc::Global;
 
 /// Rows of leases under a configuration.

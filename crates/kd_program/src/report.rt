@@ -1,5 +1,5 @@
-ghost use Rattle.std.specs.Prelude.{◌≡◌, ◌++◌, ℕ, IfOk, List, Ok, OnOk, codes, decimal, option_map, string_bytes};
-ghost use Rattle.kd_program.specs.Advice.{IsAboutConfig, name_of, size_line, size_text};
+ghost use Rattle.std.specs.Prelude.{◌≡◌, ◌++◌, ℕ, Bool, IfOk, List, Ok, OnOk, codes, decimal, option_map, string_bytes};
+ghost use Rattle.kd_program.specs.Advice.{AreRemarks, IsAboutConfig, advice_lines, name_of, size_line, size_text};
 ghost use Rattle.kd_program.specs.Report.{IsPlain, IsCheckReport, ahead_text, behind_text, damaged_line, finding_text, log_line, seen_rows_text, seen_text, plain_byte, shown_text, socket_lines, socket_text, store_line, store_lines, unread_reason, unused_line};
 
 use crate::advice::put_advice;
@@ -7,11 +7,12 @@ use crate::banner::{pool_addresses, put_place};
 use crate::checking::{Found, SeenRows, StoreFinding};
 use crate::host::Host;
 use kd_check::findings::{SocketTrouble, StoreTrouble};
-use kd_commands::{Files, Place};
+use kd_commands::{Files, Form, Place};
 use kd_config::Config;
-use kd_io::{LookFault, StartFault};
+use kd_io::LookFault;
 use kd_keeps::StoreFault;
 use kd_names::{put_signs, signs_of};
+use kd_start::StartFault;
 use std::alloc::{AllocError, Global};
 use std::fmt::Write;
 
@@ -22,7 +23,7 @@ pub(crate) fn report_of<H: Host>(
     files: &Files,
     found: &Found<'_>,
 ) -> Result<String, AllocError>
-    ensures { IfOk result (λ text. IsCheckReport (option_map string_bytes files.now.config)
+    ensures { IfOk result (λ text. IsCheckReport files.now.form (option_map string_bytes files.now.config)
         found.now.config.now (option_map string_bytes files.now.store) found.now.store.now
         found.now.place found.now.socket (string_bytes text)) }
 {
@@ -78,31 +79,68 @@ fn put_config<H: Host>(
     config: &Result<Config, StartFault>,
 ) -> Result<(), AllocError>
     ensures { OnOk result ((about : List ℕ)
-        × IsAboutConfig (option_map string_bytes files.now.config) config.now about
+        × IsAboutConfig files.now.form (option_map string_bytes files.now.config) config.now about
         × (string_bytes text.new ≡ string_bytes text.old ++ about)) }
 {
     match config {
-        Ok(config) => put_configured(alloc, text, host, &files.config, config),
+        Ok(config) => put_configured(alloc, text, host, files, config),
         Err(fault) => put_fault(text, host, files, fault),
     }
 }
 
-// Prints how much a configuration contains, and what is probably a mistake.
+// Prints how much a configuration contains, what is probably a mistake, and remarks on its keys.
 fn put_configured<H: Host>(
+    alloc: Global,
+    text: &mut String,
+    host: &H,
+    files: &Files,
+    config: &Config,
+) -> Result<(), AllocError>
+    ensures { OnOk result ((about : List ℕ)
+        × IsAboutConfig files.now.form (option_map string_bytes files.now.config) (Ok config.now)
+        about
+        × (string_bytes text.new ≡ string_bytes text.old ++ about)) }
+{
+    put_content(alloc, text, host, &files.config, config)?;
+    put_remarks(text, host, files)
+}
+
+// Prints how much a configuration contains, and what is probably a mistake.
+fn put_content<H: Host>(
     alloc: Global,
     text: &mut String,
     host: &H,
     file: &Option<String>,
     config: &Config,
 ) -> Result<(), AllocError>
-    ensures { OnOk result ((about : List ℕ)
-        × IsAboutConfig (option_map string_bytes file.now) (Ok config.now) about
-        × (string_bytes text.new ≡ string_bytes text.old ++ about)) }
+    ensures { OnOk result ((is_missing : Bool) × (string_bytes text.new ≡ string_bytes text.old
+        ++ (size_line (name_of (option_map string_bytes file.now)) config.now
+        ++ advice_lines (name_of (option_map string_bytes file.now)) config.now is_missing))) }
 {
     let name = name_in(alloc, file)?;
     put_size(text, name.as_str(), config)?;
     put_advice(text, host, name.as_str(), config)?;
     Ok(())
+}
+
+// Prints what the host remarks on the keys of a file, unless it has our own form.
+fn put_remarks<H: Host>(text: &mut String, host: &H, files: &Files) -> Result<(), AllocError>
+    ensures { OnOk result ((remarks : List ℕ) × AreRemarks files.now.form remarks
+        × (string_bytes text.new ≡ string_bytes text.old ++ remarks)) }
+{
+    match files.form {
+        Form::Own => Ok(()),
+        Form::Kea(_) => put_kea_remarks(text, host, files),
+    }
+}
+
+// Prints what the host remarks on the keys of a file.
+fn put_kea_remarks<H: Host>(text: &mut String, host: &H, files: &Files) -> Result<(), AllocError>
+    ensures { OnOk result ((remarks : List ℕ)
+        × (string_bytes text.new ≡ string_bytes text.old ++ remarks)) }
+{
+    let remarks = host.remarks(files)?;
+    text.push_str(remarks.as_str())
 }
 
 // Returns the name of a configuration: the path of its file, as a terminal may show it, or what it

@@ -3,4 +3,3 @@ pub mod Headed
 pub mod Staged
 pub mod Stepped
 pub mod Stopping
-pub mod Taken

@@ -1,6 +1,6 @@
 pub mod Batch
+pub mod Looks
 pub mod Server
-pub mod Leases
 pub mod Staging
 pub mod Step
 pub mod Trial

@@ -14,8 +14,9 @@ mod trial;
 mod turning;
 
 pub use kd_event::{Event, Handled, Ports, Reason, Response};
+pub use kd_listing::{Lease, lease_lines};
 pub use kd_loops::{EndFailed, LoopFault, ReplayFault, ServeFault, Sink, Source, replay, serve};
-pub use leases::{Lease, lease_lines, leases_at, put_row, time_of_look};
+pub use leases::{leases_at, time_of_look};
 pub use server::Server;
 pub use terms::Terms;
 pub use trial::Trial;

@@ -1,5 +1,1 @@
-pub mod Giving
 pub mod Inquired
-pub mod Listing
-pub mod Made
-pub mod Testing

@@ -1,10 +1,2 @@
-pub mod CheckLines
-pub mod Explaining
-pub mod FoundLines
 pub mod Inquiring
-pub mod Laws
-pub mod Origins
-pub mod OutcomeLines
 pub mod Saying
-pub mod Testing
-pub mod Words

@@ -1,32 +1,13 @@
-//! Why a client gets the answer it gets: what a server would do with one datagram, part by part.
+//! Why a client gets the answer it gets: what a server would do with one datagram, explained.
 //!
-//! What this layer promises to the one above: the parts of an explanation are those of the rules
-//! (`specs/Explaining.antt`): the value of each class test and its steps, the subnet, the
-//! reservation, the first address of each rank, the checks of the address that the message is
-//! about, and the decision. `specs/Checks.antt` says what these checks are, and
-//! `specs/Origins.antt` where each option comes from. The text of an explanation is these parts,
-//! line by line, and then the line that a replay would write (`specs/Saying.antt`).
+//! What this layer promises to the one above: the text of an explanation is what `kd_explain` says
+//! of the datagram at the same time and over the same rows, and then the line that a replay would
+//! write (`specs/Saying.antt`). A line of an input is explained over the rows that the events of
+//! the lines before it leave (`specs/Inquiring.antt`).
 #![tactic(auto)]
 
-mod check_lines;
-mod class_lines;
-mod classes;
-mod explaining;
-mod finding_lines;
 mod inquiry;
-pub mod laws;
-mod message_lines;
-mod option_lines;
-mod origins;
-mod outcome_lines;
-mod rank_lines;
-mod subnet_lines;
-mod text;
 mod why;
-mod words;
 
-pub use classes::{Trace, trace_classes};
-pub use explaining::{Explanation, explain};
 pub use inquiry::why_line;
-pub use origins::{Origin, origin_of};
 pub use why::why_text;

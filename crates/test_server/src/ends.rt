@@ -1,6 +1,7 @@
 use crate::support::expect;
-use kd_io::{InputFault, MOST_BYTES, read_file, token_files};
+use kd_io::{InputFault, MOST_BYTES, read_file};
 use kd_json::TokenFile;
+use kd_start::token_files;
 use std::alloc::Global;
 use std::os::unix::fs::symlink;
 use std::test::Fail;

@@ -1,16 +1,13 @@
-ghost use Rattle.std.specs.Prelude.{◌≡◌, [], IfSome, List, Some, ℕ};
-ghost use Rattle.kd_json.specs.Configured.{IsConfigured};
+ghost use Rattle.std.specs.Prelude.{◌≡◌, IfSome, List, Some, ℕ};
 
-use kd_config::Config;
-use kd_io::{config_of, read_source};
+use kd_io::read_source;
 use kd_loops::Source;
 use std::alloc::Global;
 
-/// Reads a configuration of at most 65,536 bytes.
-pub fn config_from<R: Source>(alloc: Global, source: &mut R) -> Option<Config>
+/// Returns the text of a source, if it has at most 65,536 bytes.
+pub fn text_of<R: Source>(alloc: Global, source: &mut R) -> Option<Vec<u8>>
     ensures { (text : List ℕ) → R.remaining source.old ≡ Some text
-        → IfSome result (λ config. IsConfigured text [] config) }
+        → IfSome result (λ bytes. bytes.items ≡ text) }
 {
-    let text = read_source(alloc, source, 65_536).ok()?;
-    config_of(alloc, Some(&text), &[]).ok()
+    read_source(alloc, source, 65_536).ok()
 }

@@ -1,14 +1,14 @@
 ghost use Rattle.std.specs.Prelude.{◌≡◌, ◌↔◌, ◌++◌, ◌∷◌, [], Some, IfOk, IfSome, IsTrue, MatchOption};
 ghost use Rattle.hex.specs.Hex.{IsBytes};
-ghost use Rattle.kd_server.specs.Leases.{lease_line};
-ghost use Rattle.kd_server.specs.declared.leases.Lease.{Lease};
+ghost use Rattle.kd_listing.specs.Leases.{lease_line};
+ghost use Rattle.kd_listing.specs.declared.leases.Lease.{Lease};
 ghost use Rattle.kd_log.specs.Import.{IsLeaseLine};
 ghost use Rattle.kd_log.specs.LeaseParts.{AreWords};
 
 use crate::leases::state::{is_live, state_in};
 use crate::leases::words::{Words, words_of};
+use kd_listing::{Lease, lease_lines};
 use kd_rows::Row;
-use kd_server::{Lease, lease_lines};
 use kd_text::{address_of_word, bytes_of_word, number_of_word};
 use kd_wire::Bytes;
 use std::alloc::{AllocError, Global};

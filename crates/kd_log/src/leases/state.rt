@@ -1,6 +1,6 @@
 ghost use Rattle.std.specs.Prelude.{◌≡◌, Bool, Some};
+ghost use Rattle.kd_listing.specs.Leases.{word_of_live, word_of_state};
 ghost use Rattle.kd_rows.specs.declared.row.State.{State};
-ghost use Rattle.kd_server.specs.Leases.{word_of_live, word_of_state};
 
 use kd_rows::State;
 

@@ -1,4 +1,4 @@
-ghost use Rattle.kd_server.specs.declared.leases.Lease.{Lease};
+ghost use Rattle.kd_listing.specs.declared.leases.Lease.{Lease};
 ghost use Rattle.kd_log.specs.Import.{IsLeaseLine};
 ghost use Rattle.kd_log.specs.LeaseParts.{AreWords};
 

@@ -1,6 +1,6 @@
 use Rattle.std.proofs.Common.{◌++◌, ◌∷◌, [], ap, sym, take, ◌∙◌}
+use Rattle.kd_listing.proofs.Taken.{all_taken, one_taken}
 use Rattle.kd_rows.specs.declared.row.Row.{Row}
-use Rattle.kd_server.proofs.Taken.{all_taken, one_taken}
 use Rattle.kd_server.proofs.trial.list_rows.Goals as goal
 
 pub loop-row-preserved : goal.loop-row-preserved

@@ -1,7 +1,7 @@
 use Rattle.std.proofs.Common.{◌≡◌, sym, ap, ◌∙◌, rules, IsTrue}
 use Rattle.std.specs.List.{flat_map}
 use Rattle.std.proofs.lemmas.List.{append-nil}
-use Rattle.kd_server.specs.Leases.{lease_line}
+use Rattle.kd_listing.specs.Leases.{lease_line}
 use Rattle.kd_text.proofs.Endings.{front_is_line, line_is_front}
 use Rattle.kd_log.proofs.Printed.{body, printed}
 use Rattle.kd_log.proofs.leases.lease.prints.Goals as goal

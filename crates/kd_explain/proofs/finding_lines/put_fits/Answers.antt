@@ -1,0 +1,12 @@
+use Rattle.std.specs.Prelude.{codes, string_bytes}
+use Rattle.kd_lease.specs.Rules.{asking, serving_subnet}
+use Rattle.kd_explain.specs.CheckLines.{fit_words, fits_line, place_words}
+use Rattle.kd_explain.proofs.Listing.{three_put}
+use Rattle.kd_explain.proofs.finding_lines.put_fits.Goals as goal
+
+pub returns : goal.returns
+unfolding fits_line
+returns c =
+    let q = asking c.args.matter.now.question.now in
+    three_put (string_bytes c.args.out.now) (fit_words c.args.is_fit) (place_words q (serving_subnet q) c.args.matter.now.address) (codes "\n") _ _ _
+    c.in_ok-put_fit.ensures c.in_ok-put_places.ensures c.in_ok-push_str.ensures.bytes

@@ -1,0 +1,16 @@
+use Rattle.std.proofs.Common.{arith}
+use Rattle.kd_explain.proofs.Giving.{has_at, none_at_all, none_on}
+use Rattle.kd_explain.proofs.origins.class_with.Goals as goal
+
+pub returns-then-gives : goal.returns-then-gives
+returns-then-gives c =
+    (omega (arith, c.len-i-end.ensures.count, c.loop-i-test.true), has_at c.args.classes.now c.args.names.now c.args.code c.loop-i.i c.in-Some.class.now _ c.in-Some.ensures c.if-gives.ensures, c.loop-i.invariant)
+
+pub loop-i-preserved : goal.loop-i-preserved
+loop-i-preserved c =
+    none_on c.args.classes.now c.args.names.now c.args.code c.loop-i.i c.loop-i.invariant
+    (has_at c.args.classes.now c.args.names.now c.args.code c.loop-i.i c.in-Some.class.now _ c.in-Some.ensures c.if-gives.ensures)
+
+pub returns : goal.returns
+returns c =
+    none_at_all c.args.classes.now c.args.names.now c.args.code c.loop-i.i (omega (arith, c.len-i-end.ensures.count, c.loop-i-test.false)) c.loop-i.invariant

@@ -1,0 +1,9 @@
+pub mod Account
+pub mod CheckLines
+pub mod Explaining
+pub mod FoundLines
+pub mod Laws
+pub mod Origins
+pub mod OutcomeLines
+pub mod Testing
+pub mod Words

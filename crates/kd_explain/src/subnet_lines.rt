@@ -1,0 +1,206 @@
+ghost use Rattle.std.specs.Prelude.{◌≡◌, ◌++◌, OnOk, codes, option_copied, string_bytes};
+ghost use Rattle.std.specs.List.{flat_map};
+ghost use Rattle.kd_lease.specs.SubnetOf.{message_place};
+ghost use Rattle.kd_explain.specs.FoundLines.{class_word, key_word, passed_words, place_line, place_word, reservation_line, reserved_line, sought_line, sought_lines, unasked_line};
+
+use crate::text::Scene;
+use crate::words::put_name;
+use kd_config::{Identity, Reservation, Subnet};
+use kd_lease::{place_of, serves};
+use kd_machine::Held;
+use kd_text::{put_address, put_prefix};
+use kd_wire::{Bytes, Header};
+use std::alloc::{AllocError, Global};
+
+// Prints the place that the message comes from, and what it was taken from.
+pub(crate) fn put_place(out: &mut String, scene: &Scene<'_>) -> Result<(), AllocError>
+    ensures { OnOk result (string_bytes out.new ≡ string_bytes out.old
+        ++ place_line scene.now.config.now.server scene.now.message.now.header) }
+{
+    put_place_of(out, scene.config.server(), scene.message.header())
+}
+
+#[tactic(auto, unfolding(crate::specs::FoundLines::place_line))]
+fn put_place_of(out: &mut String, server: u32, header: &Header) -> Result<(), AllocError>
+    ensures { OnOk result (string_bytes out.new
+        ≡ string_bytes out.old ++ place_line server header.now) }
+{
+    out.push_str("place ")?;
+    put_address(out, place_of(server, header))?;
+    out.push_str(" ")?;
+    out.push_str(place_source(header))?;
+    out.push_str("\n")
+}
+
+fn place_source(header: &Header) -> &'static str
+    ensures { result.now ≡ place_word header.now }
+{
+    if header.giaddr != 0 {
+        "relay"
+    } else if header.ciaddr != 0 {
+        "ciaddr"
+    } else {
+        "server"
+    }
+}
+
+// Where a message comes from, and the names of the classes that it is in. These choose its subnet.
+#[derive(Clone, Copy)]
+struct Sought<'a> {
+    place: u32,
+    names: &'a Held,
+}
+
+// Prints a line for each subnet: those that are passed over, and why; the first that serves the
+// message; and those after it.
+pub(crate) fn put_subnets(out: &mut String, scene: &Scene<'_>) -> Result<(), AllocError>
+    ensures { OnOk result (string_bytes out.new ≡ string_bytes out.old
+        ++ sought_lines (message_place scene.now.config.now.server scene.now.message.now.header)
+        scene.now.explanation.now.names scene.now.config.now.subnets) }
+{
+    let sought = Sought {
+        place: place_of(scene.config.server(), scene.message.header()),
+        names: &scene.explanation.names,
+    };
+    put_sought(scene.alloc, out, sought, scene.config.subnets())
+}
+
+#[tactic(auto, unfolding(crate::specs::FoundLines::sought_lines))]
+fn put_sought(
+    alloc: Global,
+    out: &mut String,
+    sought: Sought<'_>,
+    subnets: &[Subnet],
+) -> Result<(), AllocError>
+    ensures { OnOk result (string_bytes out.new ≡ string_bytes out.old
+        ++ sought_lines sought.entry.place sought.entry.names.now subnets.now) }
+{
+    let mut left = subnets;
+    while let [subnet, rest @ ..] = left {
+        if serves(sought.place, sought.names, subnet) {
+            put_serving(out, subnet)?;
+            return put_unasked(out, rest);
+        }
+        put_passed(alloc, out, sought.place, subnet)?;
+        left = rest;
+    }
+    out.push_str("subnet - none serves\n")?;
+    Ok(())
+}
+
+#[tactic(auto, unfolding(crate::specs::FoundLines::sought_line))]
+fn put_serving(out: &mut String, subnet: &Subnet) -> Result<(), AllocError>
+    ensures { OnOk result (string_bytes out.new
+        ≡ string_bytes out.old ++ sought_line subnet.now (codes " serves")) }
+{
+    out.push_str("subnet ")?;
+    put_prefix(out, subnet.prefix.address, subnet.prefix.length)?;
+    out.push_str(" serves")?;
+    out.push_str("\n")
+}
+
+// Prints the lines of the subnets after the one that serves.
+fn put_unasked(out: &mut String, subnets: &[Subnet]) -> Result<(), AllocError>
+    ensures { OnOk result (string_bytes out.new
+        ≡ string_bytes out.old ++ flat_map unasked_line subnets.now) }
+{
+    for subnet in subnets {
+        put_one_unasked(out, subnet)?;
+    }
+    Ok(())
+}
+
+#[tactic(auto, unfolding(crate::specs::FoundLines::sought_line))]
+fn put_one_unasked(out: &mut String, subnet: &Subnet) -> Result<(), AllocError>
+    ensures { OnOk result (string_bytes out.new ≡ string_bytes out.old ++ unasked_line subnet.now) }
+{
+    out.push_str("subnet ")?;
+    put_prefix(out, subnet.prefix.address, subnet.prefix.length)?;
+    out.push_str(" not asked")?;
+    out.push_str("\n")
+}
+
+#[tactic(auto, unfolding(crate::specs::FoundLines::sought_line))]
+fn put_passed(
+    alloc: Global,
+    out: &mut String,
+    place: u32,
+    subnet: &Subnet,
+) -> Result<(), AllocError>
+    ensures { OnOk result (string_bytes out.new
+        ≡ string_bytes out.old ++ sought_line subnet.now (passed_words place subnet.now)) }
+{
+    out.push_str("subnet ")?;
+    put_prefix(out, subnet.prefix.address, subnet.prefix.length)?;
+    put_why_passed(alloc, out, place, subnet)?;
+    out.push_str("\n")
+}
+
+// Prints why a subnet is passed over. The place is checked before the class.
+#[tactic(auto, unfolding(crate::specs::FoundLines::passed_words))]
+fn put_why_passed(
+    alloc: Global,
+    out: &mut String,
+    place: u32,
+    subnet: &Subnet,
+) -> Result<(), AllocError>
+    ensures { OnOk result (string_bytes out.new
+        ≡ string_bytes out.old ++ passed_words place subnet.now) }
+{
+    if subnet.prefix.contains(place) {
+        out.push_str(" passed over: the client is not in class ")?;
+        put_class_name(alloc, out, &subnet.class)
+    } else {
+        out.push_str(" passed over: ")?;
+        put_address(out, place)?;
+        out.push_str(" is outside")
+    }
+}
+
+fn put_class_name(alloc: Global, out: &mut String, class: &Option<Bytes>) -> Result<(), AllocError>
+    ensures { OnOk result (string_bytes out.new ≡ string_bytes out.old ++ class_word class.now) }
+{
+    match class {
+        Some(class) => put_name(alloc, out, class.as_slice()),
+        None => out.push_str("-"),
+    }
+}
+
+// Prints the line of the reservation for the client, if a subnet serves the message.
+pub(crate) fn put_reservation(
+    out: &mut String,
+    subnet: Option<&Subnet>,
+    reservation: Option<&Reservation>,
+) -> Result<(), AllocError>
+    ensures { OnOk result (string_bytes out.new ≡ string_bytes out.old
+        ++ reservation_line (option_copied subnet.entry) (option_copied reservation.entry)) }
+{
+    match (subnet, reservation) {
+        (None, _) => Ok(()),
+        (Some(_), None) => out.push_str("reservation -\n"),
+        (Some(_), Some(reservation)) => put_reserved(out, reservation),
+    }
+}
+
+#[tactic(auto, unfolding(crate::specs::FoundLines::reserved_line))]
+fn put_reserved(out: &mut String, reservation: &Reservation) -> Result<(), AllocError>
+    ensures { OnOk result (string_bytes out.new
+        ≡ string_bytes out.old ++ reserved_line reservation.now) }
+{
+    out.push_str("reservation ")?;
+    put_address(out, reservation.address)?;
+    out.push_str(" by ")?;
+    out.push_str(identity_key(&reservation.identity))?;
+    out.push_str("\n")?;
+    Ok(())
+}
+
+// Returns the configuration key by which the client is named.
+fn identity_key(identity: &Identity) -> &'static str
+    ensures { result.now ≡ key_word identity.now }
+{
+    match identity {
+        Identity::Hardware(_) => "hw-address",
+        Identity::ClientId(_) => "client-id",
+    }
+}
