@@ -1,5 +1,0 @@
-use Rattle.kd_why.proofs.Made.{explained}
-use Rattle.kd_why.proofs.laws.explained.Goals as goal
-
-pub returns : goal.returns
-returns c = λ q set got text told answers. explained c.ends_decide.ensures q set got text told answers
