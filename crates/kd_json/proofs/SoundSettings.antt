@@ -1,22 +1,22 @@
 -- What a text describes obeys what every configuration obeys, object by object.
-use Rattle.std.proofs.Common.{◌≡◌, ℕ, zero, suc, ◌≤◌, true, not, ◌&&◌, nat_le, ◌==◌, List, [], ◌∷◌, length, codes, Option, Some, None, refl, subst, sym, arith}
+use Rattle.std.proofs.Common.{◌≡◌, ℕ, zero, suc, ◌-◌, ◌≤◌, nat_lt, true, not, ◌&&◌, nat_le, ◌==◌, List, [], ◌∷◌, length, codes, Option, Some, None, refl, subst, sym, arith}
 use Rattle.std.specs.List.{AllByRecursion}
 use Rattle.std.specs.Prelude.{option_and_then, option_map}
-use borrow.Author.Tests.{leb-true}
+use borrow.Author.Tests.{leb-true, ltb-true}
 use Rattle.kd_classes.specs.HeldSet.{IsAccepted}
 use Rattle.kd_classes.specs.Order.{AreInOrder}
 use Rattle.kd_classes.specs.declared.definition.ClassDef.{ClassDef}
 use Rattle.kd_config.proofs.Tests.{some_is, both_passed}
 use Rattle.kd_json.proofs.Came.{came_from, passed, passed_only, few_meant, each_meant}
-use Rattle.kd_json.proofs.Sounds.{bytes_sound, options_sound, prefix_sound, range_sound, times_sound}
-use Rattle.kd_json.specs.Address.{prefix_spelled, range_spelled}
+use Rattle.kd_json.proofs.Sounds.{bytes_sound, options_sound, prefix_sound, spelled_rise, times_sound}
+use Rattle.kd_json.specs.Address.{addresses_spelled, prefix_spelled}
 use Rattle.kd_json.specs.Class.{class_of, has_class_keys, class_name_in, test_source_in}
 use Rattle.kd_json.specs.Configured.{AreDefinitions}
 use Rattle.kd_json.specs.Document.{accepted, accepted_settings, value_spelled, settings_spelled}
 use Rattle.kd_json.specs.Lists.{list_of}
 use Rattle.kd_json.specs.Options.{option_list_in}
 use Rattle.kd_json.specs.Sound.{AreSettings, IsEntry}
-use Rattle.kd_json.specs.Pool.{has_pool_keys, pool_of, pool_range}
+use Rattle.kd_json.specs.Pool.{has_pool_keys, pool_addresses, pool_of, pool_range}
 use Rattle.kd_json.specs.Reservation.{has_reservation_keys, identity_given, one_identity, reservation_of}
 use Rattle.kd_config.specs.Rules.{may_stand}
 use Rattle.kd_json.specs.Settings.{has_dhcp4_keys, has_root_keys, whole_settings, server_given, dhcp4_settings, settings_with, times_given}
@@ -36,9 +36,16 @@ use Rattle.kd_json.specs.declared.token_file.TokenFile.{TokenFile}
 use Rattle.serde_json.specs.Data.{Data}
 use Rattle.serde_json.specs.Find.{as_str, get}
 
+pub addresses_in_rise : (d : Data) (range : Range) → pool_addresses d ≡ Some range → range.first ≤ range.last
+unfolding pool_addresses
+addresses_in_rise d range e = let text = came_from (as_str d) addresses_spelled range e in spelled_rise text.first range text.gives
+
 pub range_in_sound : (d : Data) (range : Range) → pool_range d ≡ Some range → IsRange range
 unfolding pool_range
-range_in_sound d range e = let text = came_from (as_str d) range_spelled range e in range_sound text.first range text.gives
+range_in_sound d range e =
+    let found = came_from (pool_addresses d) _ range e in
+    let test = passed_only (nat_lt (found.first.last - found.first.first) 65536) found.first range found.gives in
+    subst IsRange test.1 (record { some = addresses_in_rise d found.first found.is; few = ltb-true (found.first.last - found.first.first) 65536 test.0 })
 
 pool_sound : (d : Data) (pool : Pool) → pool_of d ≡ Some pool → IsPool pool
 unfolding pool_of

@@ -1,5 +1,5 @@
 -- The values that a text describes obey what every configuration obeys.
-use Rattle.std.proofs.Common.{◌≡◌, ℕ, ◌+◌, ◌-◌, ◌*◌, ◌/◌, ◌^◌, ◌<◌, ◌≤◌, Bool, true, false, not, ◌&&◌, nat_le, nat_eq, ◌==◌, nat_lt, List, [], ◌∷◌, ◌++◌, length, codes, Option, Some, None, refl, subst, ap, ◌∙◌, arith, if◌then◌else◌}
+use Rattle.std.proofs.Common.{◌≡◌, ℕ, ◌+◌, ◌-◌, ◌*◌, ◌/◌, ◌^◌, ◌<◌, ◌≤◌, Bool, true, false, not, ◌&&◌, nat_le, nat_eq, ◌==◌, List, [], ◌∷◌, ◌++◌, length, codes, Option, Some, None, refl, subst, ap, ◌∙◌, arith, if◌then◌else◌}
 use Rattle.std.proofs.Math.Nat.{mul-div_cancel}
 use Rattle.std.proofs.lemmas.Bool.Decides.{nat_tests}
 use Rattle.std.proofs.lemmas.List.{length-append}
@@ -7,20 +7,20 @@ use Rattle.std.proofs.lemmas.Nat.{pow_pos}
 use Rattle.std.specs.Int.{from_be_bytes, w32}
 use Rattle.std.specs.List.{AllByRecursion, list_any}
 use Rattle.std.specs.Prelude.{◌||◌, option_and_then}
-use borrow.Author.Tests.{leb-true, ltb-true}
+use borrow.Author.Tests.{leb-true}
 use Rattle.kd_classes.specs.declared.option_list.OptionData.{OptionData}
 use Rattle.kd_json.proofs.Blocks.{cleared_within}
 use Rattle.kd_config.proofs.Tests.{some_is, both_passed}
 use Rattle.kd_json.proofs.Came.{Came, came_from, passed, passed_only, seen_from, few_items}
 use Rattle.kd_config.specs.Address.{network_address, prefix_size}
-use Rattle.kd_json.specs.Address.{address_spelled, range_from, parts_at, length_spelled, short_decimal, prefix_spelled, range_of_parts, range_by, range_spelled, prefix_range, after_spaces, before_spaces}
+use Rattle.kd_json.specs.Address.{address_spelled, addresses_by, addresses_from, addresses_of_parts, addresses_spelled, parts_at, length_spelled, short_decimal, prefix_addresses, prefix_spelled, after_spaces, before_spaces}
 use Rattle.kd_json.specs.HexText as hex
 use Rattle.kd_config.specs.Options.{code_among, own_codes}
 use Rattle.kd_json.specs.Options.{code_given, has_option_keys, option_after, options_behind, option_list_in}
 use Rattle.kd_json.specs.Lists.{items_or_none}
 use Rattle.kd_config.specs.Sound.{longest_lease}
 use Rattle.kd_json.specs.Settings.{times_given}
-use Rattle.kd_config.specs.Sound.{AreOptions, AreTimes, HaveOwnCodes, IsFrom, IsOption, IsPrefix, IsRange}
+use Rattle.kd_config.specs.Sound.{AreOptions, AreTimes, HaveOwnCodes, IsFrom, IsOption, IsPrefix}
 use Rattle.kd_json.specs.Values.{hex_bytes_in, number_within, number_if_given}
 use Rattle.kd_config.specs.declared.prefix.Prefix.{Prefix}
 use Rattle.kd_config.specs.declared.range.Range.{Range}
@@ -215,22 +215,22 @@ prefix_sound text prefix e =
       within = cleared_within address.first bits.first (address_small parts.first.0 address.first address.is);
     })
 
-between_sound : (first last : ℕ) (range : Range) → range_from first last ≡ Some range → IsRange range
-between_sound first last range e =
-    let test = passed_only (nat_le first last && nat_lt (last - first) 65536) _ range e in
-    let both = both_passed (nat_le first last) (nat_lt (last - first) 65536) test.0 in
-    subst IsRange test.1 (record { some = leb-true first last both.0; few = ltb-true (last - first) 65536 both.1 })
+addresses_rise : (first last : ℕ) (range : Range) → addresses_from first last ≡ Some range → range.first ≤ range.last
+addresses_rise first last range e =
+    let test = passed_only (nat_le first last) _ range e in
+    subst (λ (r : Range). r.first ≤ r.last) test.1 (leb-true first last test.0)
 
-range_by_sound : (text : List ℕ) (parts : Option (List ℕ × List ℕ)) (range : Range) → range_by text parts ≡ Some range → IsRange range
-unfolding range_of_parts
-range_by_sound text None range e =
-    let prefix = came_from (prefix_spelled text) prefix_range range e in
-    between_sound prefix.first.address (prefix.first.address + (prefix_size prefix.first.length - 1)) range prefix.gives
-range_by_sound text (Some parts) range e =
+by_parts_rise : (text : List ℕ) (parts : Option (List ℕ × List ℕ)) (range : Range) → addresses_by text parts ≡ Some range → range.first ≤ range.last
+unfolding addresses_of_parts
+by_parts_rise text None range e =
+    let prefix = came_from (prefix_spelled text) prefix_addresses range e in
+    addresses_rise prefix.first.address (prefix.first.address + (prefix_size prefix.first.length - 1)) range prefix.gives
+by_parts_rise text (Some parts) range e =
     let first = came_from (address_spelled (before_spaces parts.0)) _ range e in
     let last = came_from (address_spelled (after_spaces parts.1)) _ range first.gives in
-    between_sound first.first last.first range last.gives
+    addresses_rise first.first last.first range last.gives
 
-pub range_sound : (text : List ℕ) (range : Range) → range_spelled text ≡ Some range → IsRange range
-unfolding range_spelled
-range_sound text range e = range_by_sound text (parts_at 45 text) range e
+-- the addresses of a text go from the lowest to the highest
+pub spelled_rise : (text : List ℕ) (range : Range) → addresses_spelled text ≡ Some range → range.first ≤ range.last
+unfolding addresses_spelled
+spelled_rise text range e = by_parts_rise text (parts_at 45 text) range e

@@ -1,6 +1,6 @@
 -- The texts of addresses: an IPv4 address as a number, a prefix `address/length`, and a pool, which
 -- is `first - last` or a prefix.
-use Rattle.std.specs.Prelude.{ℕ, ◌+◌, ◌-◌, ◌*◌, ◌&&◌, ◌==◌, nat_le, nat_lt, if◌then◌else◌, List, [], ◌∷◌, reverse, Option, Some, None, option_map, option_and_then}
+use Rattle.std.specs.Prelude.{ℕ, ◌+◌, ◌-◌, ◌*◌, ◌&&◌, ◌==◌, nat_le, if◌then◌else◌, List, [], ◌∷◌, reverse, Option, Some, None, option_map, option_and_then}
 use Rattle.std.specs.Int.{from_be_bytes, w32}
 use Rattle.kd_config.specs.Address.{network_address, prefix_size}
 use Rattle.kd_config.specs.declared.prefix.Prefix.{Prefix}
@@ -49,28 +49,28 @@ prefix_spelled text = do
   length ← length_spelled parts.1
   Some (record { address = network_address address length; length = length })
 
--- the addresses from the first to the last: at least one, at most 65,536
-abbrev pub range_from : ℕ → ℕ → Option Range
-range_from first last =
-    if nat_le first last
-    && nat_lt (last - first) 65536 then Some (record { first = first; last = last }) else None
+-- the addresses from the first to the last: at least one
+abbrev pub addresses_from : ℕ → ℕ → Option Range
+addresses_from first last =
+    if nat_le first last then Some (record { first = first; last = last }) else None
 
 -- the addresses of a prefix
-abbrev pub prefix_range : Prefix → Option Range
-prefix_range prefix = range_from prefix.address (prefix.address + (prefix_size prefix.length - 1))
+abbrev pub prefix_addresses : Prefix → Option Range
+prefix_addresses prefix =
+    addresses_from prefix.address (prefix.address + (prefix_size prefix.length - 1))
 
 -- the addresses from one to another, with optional spaces around the dash between them
-unfoldable pub range_of_parts : List ℕ × List ℕ → Option Range
-range_of_parts parts = do
+unfoldable pub addresses_of_parts : List ℕ × List ℕ → Option Range
+addresses_of_parts parts = do
   first ← address_spelled (before_spaces parts.0)
   last ← address_spelled (after_spaces parts.1)
-  range_from first last
+  addresses_from first last
 
--- the range of a text without a dash, or of the two parts at its dash
-abbrev pub range_by : List ℕ → Option (List ℕ × List ℕ) → Option Range
-range_by text None = option_and_then prefix_range (prefix_spelled text)
-range_by text (Some parts) = range_of_parts parts
+-- the addresses of a text without a dash, or of the two parts at its dash
+abbrev pub addresses_by : List ℕ → Option (List ℕ × List ℕ) → Option Range
+addresses_by text None = option_and_then prefix_addresses (prefix_spelled text)
+addresses_by text (Some parts) = addresses_of_parts parts
 
 -- the addresses that the text of a pool gives
-unfoldable pub range_spelled : List ℕ → Option Range
-range_spelled text = range_by text (parts_at 45 text)
+unfoldable pub addresses_spelled : List ℕ → Option Range
+addresses_spelled text = addresses_by text (parts_at 45 text)

@@ -5,7 +5,7 @@ use Rattle.std.specs.List.{AllByRecursion}
 use Rattle.std.proofs.lemmas.Bool.{and_right}
 use Rattle.std.proofs.lemmas.Bool.Decides.{nat_tests}
 use Rattle.std.proofs.lemmas.Fmt.{decimal_by_steps, decimal_nonempty}
-use Rattle.kd_values.specs.Numbers.{based_number, digit_in, if_below, number_behind, number_below}
+use Rattle.kd_values.specs.Numbers.{based_number, digit_in, if_below, number_behind, number_below, number_given, without_plus}
 use Rattle.kd_values.proofs.Trims.{AreInner, is_inner}
 
 -- a decimal digit
@@ -69,5 +69,11 @@ based_reads limit n less small =
     rw (ne_eqb (length (decimal n)) 0 (λ e. absurd (omega (arith, e, decimal_nonempty n small))))
     (ap (if_below limit) (decimal_reads n small).1 ∙ rw (lt-ltb n limit less) refl)
 
-pub below_reads : (limit n : ℕ) → n < limit → n < 2 ^ 64 → number_below limit (decimal n) ≡ Some n
-below_reads limit n less small = figures_are_decimal limit (decimal n) (decimal_reads n small).0 ∙ based_reads limit n less small
+-- figures have no plus sign before them
+pub no_plus : (digits : List ℕ) → AreFigures digits → without_plus digits ≡ digits
+no_plus [] p = refl
+no_plus (c ∷ digits) p = rw (ne_eqb c 43 (λ e. absurd (omega (arith, e, p.0.0)))) refl
+
+pub below_reads : (limit n : ℕ) → n < limit → n < 2 ^ 64 → number_given limit (decimal n) ≡ Some n
+below_reads limit n less small =
+    ap (number_below limit) (no_plus (decimal n) (decimal_reads n small).0) ∙ figures_are_decimal limit (decimal n) (decimal_reads n small).0 ∙ based_reads limit n less small

@@ -7,7 +7,7 @@ use Rattle.std.proofs.lemmas.Bool.{and_parts, not-true, or_parts}
 use Rattle.hex.specs.Hex.{IsBytes}
 use Rattle.kd_names.specs.Values.{code_behind, codes_text, shorts_behind, shorts_text, sign_text}
 use Rattle.kd_values.specs.Parts.{trimmed, values_between_commas}
-use Rattle.kd_values.specs.Numbers.{four_bytes_spelled, number_below, one_byte_spelled, signed_spelled, two_bytes_spelled}
+use Rattle.kd_values.specs.Numbers.{four_bytes_spelled, number_given, one_byte_spelled, signed_spelled, two_bytes_spelled}
 use Rattle.kd_values.specs.Signs.{sign_before, signs_read}
 use Rattle.kd_values.specs.Laws.{is_plain_sign}
 use Rattle.kd_values.proofs.Decimals.{AreFigures, below_reads, decimal_reads, figures_inner}
@@ -76,7 +76,7 @@ shorts_read (a ∷ b ∷ rest) some whole are =
 
 -- ---- signed numbers
 
-pub plain_signed : (digits : List ℕ) → AreFigures digits → 0 < length digits → signed_spelled digits ≡ option_map (to_be_bytes w32) (number_below (2 ^ 31) digits)
+pub plain_signed : (digits : List ℕ) → AreFigures digits → 0 < length digits → signed_spelled digits ≡ option_map (to_be_bytes w32) (number_given (2 ^ 31) digits)
 plain_signed [] are some = absurd (omega (arith, some))
 plain_signed (c ∷ digits) are some = rw (ne_eqb c 45 (λ e. absurd (omega (arith, e, are.0.0)))) refl
 

@@ -275,7 +275,7 @@ example_65 : fields_spelled (fields.Tuple ∷ []) false (codes "xxxxxxxxxxxxxxxx
 unfolding address_read part_at_front part_after_dot digits decode_pairs based_number flag_spelled message_type_spelled message_type_word hexadecimal_spelled route_spelled
 example_65 = refl
 
-example_66 : fields_spelled [] false (codes " ") ≡ (Some [])
+example_66 : fields_spelled [] false [] ≡ (Some [])
 unfolding address_read part_at_front part_after_dot digits decode_pairs based_number flag_spelled message_type_spelled message_type_word hexadecimal_spelled route_spelled
 example_66 = refl
 
@@ -338,3 +338,39 @@ example_80 = refl
 example_81 : fields_spelled (fields.Bytes ∷ fields.Uint8 ∷ []) false (codes "0x01:02 0a, 3") ≡ (Some (1 ∷ 2 ∷ 10 ∷ 3 ∷ []))
 unfolding address_read part_at_front part_after_dot digits decode_pairs based_number flag_spelled message_type_spelled message_type_word hexadecimal_spelled route_spelled
 example_81 = refl
+
+example_82 : fields_spelled (fields.Uint8 ∷ []) false (codes "+7") ≡ (Some (7 ∷ []))
+unfolding address_read part_at_front part_after_dot digits decode_pairs based_number flag_spelled message_type_spelled message_type_word hexadecimal_spelled route_spelled
+example_82 = refl
+
+example_83 : fields_spelled (fields.Uint8 ∷ []) false (codes "+0x7") ≡ (Some (7 ∷ []))
+unfolding address_read part_at_front part_after_dot digits decode_pairs based_number flag_spelled message_type_spelled message_type_word hexadecimal_spelled route_spelled
+example_83 = refl
+
+example_84 : fields_spelled (fields.Uint8 ∷ []) false (codes "++7") ≡ None
+unfolding address_read part_at_front part_after_dot digits decode_pairs based_number flag_spelled message_type_spelled message_type_word hexadecimal_spelled route_spelled
+example_84 = refl
+
+example_85 : fields_spelled (fields.Uint8 ∷ []) false (codes "+") ≡ None
+unfolding address_read part_at_front part_after_dot digits decode_pairs based_number flag_spelled message_type_spelled message_type_word hexadecimal_spelled route_spelled
+example_85 = refl
+
+example_86 : fields_spelled (fields.Uint32 ∷ []) false (codes " +4294967295 ") ≡ (Some (255 ∷ 255 ∷ 255 ∷ 255 ∷ []))
+unfolding address_read part_at_front part_after_dot digits decode_pairs based_number flag_spelled message_type_spelled message_type_word hexadecimal_spelled route_spelled
+example_86 = refl
+
+example_87 : fields_spelled (fields.Int8 ∷ []) false (codes "+128") ≡ None
+unfolding address_read part_at_front part_after_dot digits decode_pairs based_number flag_spelled message_type_spelled message_type_word hexadecimal_spelled route_spelled
+example_87 = refl
+
+example_88 : fields_spelled (fields.Int8 ∷ []) false (codes "+127") ≡ (Some (127 ∷ []))
+unfolding address_read part_at_front part_after_dot digits decode_pairs based_number flag_spelled message_type_spelled message_type_word hexadecimal_spelled route_spelled
+example_88 = refl
+
+example_89 : fields_spelled (fields.Int8 ∷ []) false (codes "+-7") ≡ None
+unfolding address_read part_at_front part_after_dot digits decode_pairs based_number flag_spelled message_type_spelled message_type_word hexadecimal_spelled route_spelled
+example_89 = refl
+
+example_90 : fields_spelled [] false (codes " ") ≡ None
+unfolding address_read part_at_front part_after_dot digits decode_pairs based_number flag_spelled message_type_spelled message_type_word hexadecimal_spelled route_spelled
+example_90 = refl

@@ -73,8 +73,8 @@ abbrev pub nothing_spelled : List ℕ → Option (List ℕ)
 nothing_spelled [] = Some []
 nothing_spelled (b ∷ text) = None
 
--- the value of an option with these fields; without fields there is no text but blanks
+-- the value of an option with these fields; without fields there is no text
 abbrev pub fields_spelled : List FieldType → Bool → List ℕ → Option (List ℕ)
-fields_spelled [] repeats text = nothing_spelled (trimmed text)
+fields_spelled [] repeats text = nothing_spelled text
 fields_spelled (field ∷ fields) repeats text =
     parts_spelled field fields repeats (parts_behind false text)

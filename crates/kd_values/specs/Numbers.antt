@@ -1,4 +1,4 @@
--- Numbers in option data: decimal digits, or hexadecimal ones after 0x. In an option a number has
+-- Numbers in option data: decimal digits, or hexadecimal ones after 0x, perhaps behind a plus sign. In an option a number has
 -- one, two or four bytes, the highest first (RFC 2132 section 2).
 use Rattle.std.specs.Prelude.{ℕ, ◌+◌, ◌-◌, ◌*◌, ◌%◌, ◌^◌, ◌==◌, ◌&&◌, ◌||◌, nat_lt, if◌then◌else◌, List, [], ◌∷◌, Option, Some, None, length, option_and_then, option_map}
 use Rattle.std.specs.Int.{to_be_bytes, w16, w32}
@@ -34,25 +34,34 @@ number_below limit (a ∷ b ∷ digits) =
     else based_number 10 limit (a ∷ b ∷ digits)
 number_below limit text = based_number 10 limit text
 
+-- a text without the plus sign that it may begin with
+abbrev pub without_plus : List ℕ → List ℕ
+without_plus [] = []
+without_plus (b ∷ text) = if b == 43 then text else b ∷ text
+
+-- the number that a text gives, perhaps behind a plus sign, if it is below a limit
+abbrev pub number_given : ℕ → List ℕ → Option ℕ
+number_given limit text = number_below limit (without_plus text)
+
 -- a number of one byte
 abbrev pub one_byte_spelled : List ℕ → Option (List ℕ)
-one_byte_spelled text = option_map (λ n. n ∷ []) (number_below 256 text)
+one_byte_spelled text = option_map (λ n. n ∷ []) (number_given 256 text)
 
 -- a number of two bytes
 abbrev pub two_bytes_spelled : List ℕ → Option (List ℕ)
-two_bytes_spelled text = option_map (to_be_bytes w16) (number_below (2 ^ 16) text)
+two_bytes_spelled text = option_map (to_be_bytes w16) (number_given (2 ^ 16) text)
 
 -- a number of four bytes
 abbrev pub four_bytes_spelled : List ℕ → Option (List ℕ)
-four_bytes_spelled text = option_map (to_be_bytes w32) (number_below (2 ^ 32) text)
+four_bytes_spelled text = option_map (to_be_bytes w32) (number_given (2 ^ 32) text)
 
 -- a number from -half up to half - 1 in two's complement, where there are twice half numbers; a
 -- negative one is decimal digits after a minus sign
 abbrev pub signed_number : ℕ → List ℕ → Option ℕ
 signed_number half (b ∷ digits) =
     if b == 45 then option_map (λ n. (2 * half - n) % (2 * half)) (based_number 10 (half + 1) digits)
-    else number_below half (b ∷ digits)
-signed_number half text = number_below half text
+    else number_given half (b ∷ digits)
+signed_number half text = number_given half text
 
 -- a number of one byte in two's complement
 abbrev pub signed_byte_spelled : List ℕ → Option (List ℕ)

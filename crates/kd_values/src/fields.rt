@@ -1,7 +1,6 @@
 ghost use Rattle.std.specs.Prelude.{◌≡◌, ◌+◌, ◌<◌, ◌∷◌, ℕ, [], false, IfOk, IfSome, MatchOption, length};
 ghost use Rattle.kd_values.specs.Fields.{field_spelled, fields_spelled, parts_behind, parts_spelled};
 ghost use Rattle.kd_values.specs.Fields.{nothing_spelled, tuple_spelled, types_of_parts};
-ghost use Rattle.kd_values.specs.Parts.{trimmed};
 
 use crate::digits::bytes_of;
 use crate::field_type::FieldType;
@@ -20,7 +19,7 @@ const TUPLE_BYTES: usize = 255;
 /// none: one part between commas for each field, in order, and if `repeats`, further parts of the
 /// type of the last field (Kea's `option-def` with `array`). A comma right behind a backslash
 /// belongs to a text and ends no part. Blanks around a part are ignored, and an empty part is no
-/// value. Without fields the text has only blanks, and the value is empty.
+/// value. Without fields there is no text, and the value is empty.
 ///
 /// # Errors
 ///
@@ -39,11 +38,11 @@ pub fn fields_of(
     }
 }
 
-// Returns no bytes for a text that has only blanks.
+// Returns no bytes for an empty text.
 fn empty_of(alloc: Global, text: &[u8]) -> Result<Option<Bytes>, AllocError>
-    ensures { IfOk result (λ value. value ≡ nothing_spelled (trimmed text.now)) }
+    ensures { IfOk result (λ value. value ≡ nothing_spelled text.now) }
 {
-    match trim(text) {
+    match text {
         [] => some_bytes(alloc, &[]),
         [_, ..] => Ok(None),
     }

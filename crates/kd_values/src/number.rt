@@ -1,6 +1,6 @@
 ghost use Rattle.std.specs.Prelude.{◌≡◌, ◌*◌, ◌^◌, ◌<◌, ◌≤◌, ◌∷◌, [], IfOk, IfSome, option_map};
 ghost use Rattle.std.specs.Int.{to_be_bytes, w16, w32};
-ghost use Rattle.kd_values.specs.Numbers.{based_number, digit_in, number_below, signed_number};
+ghost use Rattle.kd_values.specs.Numbers.{based_number, digit_in, number_below, number_given, signed_number};
 ghost use Rattle.kd_values.specs.Numbers.{one_byte_spelled, two_bytes_spelled, four_bytes_spelled};
 ghost use Rattle.kd_values.specs.Numbers.{signed_byte_spelled, signed_short_spelled, signed_spelled};
 
@@ -19,21 +19,21 @@ const LONGS: u64 = 0x1_0000_0000;
 pub(crate) fn byte_of(alloc: Global, text: &[u8]) -> Result<Option<Bytes>, AllocError>
     ensures { IfOk result (λ value. value ≡ one_byte_spelled text.now) }
 {
-    one_byte(alloc, number_of(text, BYTES))
+    one_byte(alloc, given_number(text, BYTES))
 }
 
 // Reads a number of two bytes.
 pub(crate) fn short_of(alloc: Global, text: &[u8]) -> Result<Option<Bytes>, AllocError>
     ensures { IfOk result (λ value. value ≡ two_bytes_spelled text.now) }
 {
-    two_bytes(alloc, number_of(text, SHORTS))
+    two_bytes(alloc, given_number(text, SHORTS))
 }
 
 // Reads a number of four bytes.
 pub(crate) fn long_of(alloc: Global, text: &[u8]) -> Result<Option<Bytes>, AllocError>
     ensures { IfOk result (λ value. value ≡ four_bytes_spelled text.now) }
 {
-    four_bytes(alloc, number_of(text, LONGS))
+    four_bytes(alloc, given_number(text, LONGS))
 }
 
 // Reads a number of one byte in two's complement.
@@ -103,8 +103,21 @@ fn signed_number_of(text: &[u8], half: u64) -> Option<u64>
             let number = number_of_digits(10, digits, half + 1)?;
             Some((2 * half - number) % (2 * half))
         }
-        [_, ..] => number_of(text, half),
-        [] => number_of(text, half),
+        [_, ..] => given_number(text, half),
+        [] => given_number(text, half),
+    }
+}
+
+// Returns the number that a text gives, perhaps behind a plus sign, if it is below the limit.
+fn given_number(text: &[u8], limit: u64) -> Option<u64>
+    requires low { 0 < limit }
+    requires high { limit ≤ 2 ^ 32 }
+    ensures spelled { result ≡ number_given limit text.now }
+    ensures below { IfSome result (λ number. number < limit) }
+{
+    match text {
+        [b'+', number @ ..] => number_of(number, limit),
+        _ => number_of(text, limit),
     }
 }
 

@@ -1,7 +1,7 @@
-ghost use Rattle.std.specs.Prelude.{◌≡◌};
+ghost use Rattle.std.specs.Prelude.{◌≡◌, ◌≤◌, IfSome};
 ghost use Rattle.serde_json.specs.View.{view};
 ghost use Rattle.kd_json.specs.Gives.{Means};
-ghost use Rattle.kd_json.specs.Pool.{has_pool_keys, pool_of, pool_range};
+ghost use Rattle.kd_json.specs.Pool.{has_pool_keys, pool_addresses, pool_of, pool_range};
 ghost use Rattle.kd_json.specs.Steps.{must};
 ghost use Rattle.kd_json.specs.declared.objects.faults.SettingsFault.TheVariants.{Memory};
 
@@ -46,6 +46,20 @@ fn check_pool(alloc: Global, value: &Value, at: &Place<'_>) -> Result<(), Settin
 #[tactic(auto, unfolding(crate::specs::Pool::pool_range))]
 pub fn range_in(value: &Value) -> Option<Range>
     ensures { result ≡ pool_range (view value.now) }
+{
+    let range = addresses_in(value)?;
+    if range.last - range.first < 65_536 {
+        Some(range)
+    } else {
+        None
+    }
+}
+
+/// Returns the addresses of a pool: at least 1.
+#[tactic(auto, unfolding(crate::specs::Pool::pool_addresses))]
+pub fn addresses_in(value: &Value) -> Option<Range>
+    ensures rise { IfSome result (λ range. range.first ≤ range.last) }
+    ensures read { result ≡ pool_addresses (view value.now) }
 {
     range_of(value.as_str()?.as_bytes())
 }
