@@ -1,1 +1,2 @@
 pub mod OnFiles
+pub mod Trials

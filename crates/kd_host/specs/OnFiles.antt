@@ -1,5 +1,5 @@
 -- What the arguments of a command line do over a machine whose files held these bytes.
-use Rattle.std.specs.Prelude.{◌≡◌, ◌⊎◌, ℕ, Bool, Err, IfOk, List, Ok, Option, None, Result, Some, false, is_some, option_map, string_bytes, true}
+use Rattle.std.specs.Prelude.{◌≡◌, ◌⊎◌, ℕ, Bool, Err, IfOk, List, [], Ok, Option, None, Result, Some, false, is_some, option_map, string_bytes, true}
 use Rattle.sqlite_disk.specs.declared.Disk.{Ghosts as Disks}
 use Rattle.sqlite_store.specs.FileStore.{view}
 use Rattle.sqlite_store.specs.declared.store.FileStore.{FileStore}
@@ -21,7 +21,9 @@ use Rattle.kd_database.specs.Stops.{LiesBelow}
 use Rattle.kd_database.specs.Stores.{IsNoStoreIn, IsStoreIn, StandsAsHeld, StandsNew}
 use Rattle.kd_start.specs.Faults.{start_fault_number}
 use Rattle.kd_io.specs.Looking.{IsCopyFault}
+use Rattle.kd_start.specs.KeaWords.{AreKeaRemarks, AreKeaStartWords}
 use Rattle.kd_start.specs.Start.{IsNoStartOfFiles, IsNoStartOfKeaFile, IsOfFiles, IsOfKeaFile}
+use Rattle.kd_start.specs.Words.{AreStartWords}
 use Rattle.kd_io.specs.declared.link.Sending.{Sending}
 use Rattle.kd_io.specs.declared.look.LookFault.{LookFault}
 use Rattle.kd_io.specs.declared.look.LookFault.TheVariants as looks
@@ -87,6 +89,28 @@ IsOfThese files c = IsInForm files.form (is_some files.config) (is_some files.to
 abbrev pub IsNoStartOfThese : Files → StartFault → Type 0
 IsNoStartOfThese files fault =
     IsNoStartInForm files.form (is_some files.config) (is_some files.token_dir) fault
+
+-- why a file in this form, and a folder, give no configuration, in words
+abbrev pub AreWordsInForm : Form → Option (List ℕ) → Option (List ℕ) → StartFault → List ℕ → Type 0
+AreWordsInForm (Kea server) (Some path) folder fault words =
+    AreKeaStartWords path server fault words
+AreWordsInForm form file folder fault words = AreStartWords file folder fault words
+
+-- why these files give no configuration, in words
+abbrev pub AreWordsOfThese : Files → StartFault → List ℕ → Type 0
+AreWordsOfThese files fault words =
+    AreWordsInForm files.form (option_map string_bytes files.config)
+    (option_map string_bytes files.token_dir) fault words
+
+-- remarks on the keys of a file in this form: there are none on one of our own form
+abbrev pub AreRemarksInForm : Form → Option (List ℕ) → List ℕ → Type 0
+AreRemarksInForm (Kea server) (Some path) words = AreKeaRemarks path server words
+AreRemarksInForm form file words = words ≡ []
+
+-- remarks on the keys of the file of these files
+abbrev pub AreRemarksOfThese : Files → List ℕ → Type 0
+AreRemarksOfThese files words =
+    AreRemarksInForm files.form (option_map string_bytes files.config) words
 
 -- what a command leaves: its streams, and what is below its store, if it had one
 pub record Left (F : Type 0) : Type 0 where

@@ -1,4 +1,6 @@
-ghost use Rattle.std.specs.Prelude.{◌≡◌, is_some};
+ghost use Rattle.std.specs.Prelude.{◌≡◌, is_some, option_map, string_bytes};
+ghost use Rattle.std.specs.Option.{option_copied};
+ghost use Rattle.kd_host.specs.Trials.{IsUnused, count_told, seconds_told};
 
 use kd_check::findings::{SocketTrouble, StoreTrouble};
 use kd_commands::{Files, Form, Listening};
@@ -18,6 +20,7 @@ use sqlite::{FileFrom, FileStore, Start};
 use sqlite_disk::{Disk, Memory};
 use std::alloc::{AllocError, Global};
 use std::fs::File;
+use std::io;
 use std::net::UdpSocket;
 use std::time::SystemTime;
 
@@ -68,7 +71,9 @@ impl<'a, F: Start> Host for Machine<'a, F, Below<F>> {
     ghost use Rattle.sqlite_wal.specs.Files.{image_at};
     ghost use Rattle.kd_database.specs.Stops.{LiesBelow};
     ghost use Rattle.kd_database.specs.Stores.{IsStoreIn, StandsAsHeld, StandsNew};
-    ghost use Rattle.kd_host.specs.OnFiles.{AreRowsFound, GivesNoRows, GivesNoStore, IsNoStartOfThese, IsOfHanded, IsOfThese, sending_of};
+    ghost use Rattle.kd_host.specs.OnFiles.{AreRemarksOfThese, AreRowsFound, AreWordsOfThese, GivesNoRows, GivesNoStore, IsNoStartOfThese, IsOfHanded, IsOfThese, sending_of};
+    ghost use Rattle.kd_host.specs.Trials.{IsTimeOfClock, IsUnusedOfSome};
+    ghost use Rattle.kd_start.specs.Trials.{IsSocketTrial, IsStoreTrial};
 
     type Named = Store<Below<F>>;
 
@@ -100,11 +105,17 @@ impl<'a, F: Start> Host for Machine<'a, F, Below<F>> {
 
     ghost records = { λ old path result new. IfOk result (λ sink. sink.failed ≡ false) };
 
-    ghost tries = { λ machine path answer. Unit {0} };
+    ghost tries = { λ machine path answer. IsStoreTrial path answer };
 
-    ghost reaches = { λ machine address port answer. Unit {0} };
+    ghost reaches = { λ machine address port answer. IsSocketTrial answer };
 
-    ghost tells_time = { λ machine moment. Unit {0} };
+    ghost tells_time = { λ machine moment. IsTimeOfClock moment };
+
+    ghost explains = { λ machine files fault words. AreWordsOfThese files fault words };
+
+    ghost remarked = { λ machine files words. AreRemarksOfThese files words };
+
+    ghost leaves_out = { λ machine path count. IsUnusedOfSome count };
 
     ghost version = { λ machine. machine.version.now };
 
@@ -170,14 +181,14 @@ impl<'a, F: Start> Host for Machine<'a, F, Below<F>> {
     fn start_words(&self, files: &Files, fault: &StartFault) -> Result<String, AllocError> {
         let file = path_if_given(&files.config);
         match (files.form, file) {
-            (Form::Kea(_), Some(path)) => kea_start_words(self.rt, path, fault),
+            (Form::Kea(server), Some(path)) => kea_start_words(self.rt, path, server, fault),
             (_, file) => start_words(self.rt, file, path_if_given(&files.token_dir), fault),
         }
     }
 
     fn remarks(&self, files: &Files) -> Result<String, AllocError> {
         match (files.form, path_if_given(&files.config)) {
-            (Form::Kea(_), Some(path)) => kea_remarks(self.rt, path),
+            (Form::Kea(server), Some(path)) => kea_remarks(self.rt, path, server),
             _ => Ok(String::new(self.rt.alloc())),
         }
     }
@@ -198,10 +209,7 @@ impl<'a, F: Start> Host for Machine<'a, F, Below<F>> {
     }
 
     fn clock(&self) -> u64 {
-        match SystemTime::now(self.rt) {
-            Ok(time) => seconds_of(time),
-            Err(_) => 0,
-        }
+        seconds_given(SystemTime::now(self.rt))
     }
 
     fn version(&self) -> &str {
@@ -209,9 +217,20 @@ impl<'a, F: Start> Host for Machine<'a, F, Below<F>> {
     }
 }
 
+// Returns the whole seconds of a time that the system gave, or 0 if it gave none.
+fn seconds_given(given: io::Result<SystemTime>) -> u64
+    ensures { result ≡ seconds_told given }
+{
+    match given {
+        Ok(time) => seconds_of(time),
+        Err(_) => 0,
+    }
+}
+
 // Returns a path, if one is given.
 fn path_if_given(path: &Option<String>) -> Option<&str>
-    ensures { is_some result ≡ is_some path.now }
+    ensures given { is_some result ≡ is_some path.now }
+    ensures exact { option_copied result ≡ option_map string_bytes path.now }
 {
     match path {
         Some(path) => Some(path.as_str()),
@@ -229,12 +248,21 @@ fn log_of(alloc: Global, store: &Option<String>) -> Result<String, AllocError> {
 
 // Returns how many bytes a store that is opened on a log and a database leaves out of the log, if
 // any: all, if the database has no bytes (SQLite's file format, section 4).
-fn unused(alloc: Global, log: &[u8], db: &[u8]) -> Option<usize> {
+fn unused(alloc: Global, log: &[u8], db: &[u8]) -> Option<usize>
+    ensures { IsUnused log.now db.now result }
+{
     if db.is_empty() && !log.is_empty() {
         return Some(log.len());
     }
-    match left_out(alloc, log) {
-        Ok(bytes) => bytes,
+    count_given(left_out(alloc, log))
+}
+
+// Returns a count, if there is one; nothing if it cannot be determined.
+fn count_given(given: Result<Option<usize>, StoreFault>) -> Option<usize>
+    ensures { result ≡ count_told given }
+{
+    match given {
+        Ok(count) => count,
         Err(_) => None,
     }
 }

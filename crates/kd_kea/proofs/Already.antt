@@ -1,10 +1,11 @@
--- A text without signs of comments and without last commas is its own plain text.
+-- A text without signs of comments, last commas and first points is its own plain text.
 use Rattle.std.proofs.Common.{◌≡◌, ◌≢◌, ℕ, zero, suc, ◌-◌, Bool, true, false, ◌==◌, nat_eq, List, [], ◌∷◌, ◌++◌, length, Some, refl, sym, ap, ◌∙◌, subst, if◌then◌else◌, append_assoc, true≢false}
 use Rattle.std.specs.Prelude.{codes, flat_map}
 use Rattle.std.specs.List.{AllByRecursion, starts_with}
-use Rattle.std.proofs.lemmas.Bool.{ne_eqb}
-use Rattle.kd_kea.specs.Plain.{Span, Quoted, Comment, Endless, Single, span_bytes, begins_line_comment, first_span, spans_behind, spans, a_json_space, a_closing_bracket, bracket_next, plain}
-use Rattle.kd_kea.specs.PlainLaws.{IsPlainAlready, HasNoCommentSign, HasNoLastComma}
+use Rattle.std.proofs.lemmas.Bool.{eqb-true, ne_eqb}
+use Rattle.kd_config.proofs.Tests.{both_passed}
+use Rattle.kd_kea.specs.Plain.{Span, Quoted, Comment, Endless, Single, span_bytes, begins_line_comment, first_span, spans_behind, spans, a_json_space, a_closing_bracket, bracket_next, plain, point_next}
+use Rattle.kd_kea.specs.PlainLaws.{IsPlainAlready, HasNoCommentSign, HasNoFirstPoint, HasNoLastComma}
 use Rattle.kd_kea.proofs.Spans.{bytes_of_spans, first_quoted, first_single}
 use Rattle.kd_kea.proofs.Blanked.{plain_stays}
 
@@ -62,19 +63,30 @@ not_true : (k : Bool) → (k ≡ true → ⊥) → k ≡ false
 not_true true h = absurd (h refl)
 not_true false h = refl
 
-already : (spans : List Span) (front : List ℕ) → AllByRecursion IsSimple spans → HasNoLastComma (front ++ flat_map span_bytes spans) → IsPlainAlready spans
-already [] front p none = tt
-already (Quoted bytes ∷ rest) front p none =
-    already rest (front ++ bytes) p.1 (subst HasNoLastComma (sym (append_assoc front bytes (flat_map span_bytes rest))) none)
-already (Comment bytes ∷ rest) front p none = absurd p.0
-already (Endless bytes ∷ rest) front p none = absurd p.0
-already (Single b ∷ rest) front p none = (
-  λ is. not_true (bracket_next rest) (λ next.
-      let more = closing_begins rest p.1 next in
-      true≢false (sym more.closes ∙ none front more.space more.behind more.b (ap (λ c. front ++ c ∷ flat_map span_bytes rest) is ∙ ap (λ t. front ++ 44 ∷ t) more.is) more.each)),
-  already rest (front ++ b ∷ []) p.1 (subst HasNoLastComma (sym (append_assoc front (b ∷ []) (flat_map span_bytes rest))) none),
-)
+-- what a text with a point begins with
+point_first : (text : List ℕ) → starts_with nat_eq text (codes ".") ≡ true → (behind : List ℕ) × (text ≡ 46 ∷ behind)
+point_first [] e = absurd cc
+point_first (b ∷ text) e = (text, ap (λ c. c ∷ text) (sym (eqb-true 46 b (both_passed (46 == b) true e).0)))
 
-pub plain_stays_without : (text : List ℕ) → HasNoCommentSign text → HasNoLastComma text → plain text ≡ Some text
-plain_stays_without text no_sign no_comma =
-    plain_stays text (already (spans text) [] (all_simple 0 text no_sign) (subst HasNoLastComma (sym (bytes_of_spans text)) no_comma))
+already : (spans : List Span) (front : List ℕ) → AllByRecursion IsSimple spans → HasNoLastComma (front ++ flat_map span_bytes spans) → HasNoFirstPoint (front ++ flat_map span_bytes spans) → IsPlainAlready spans
+already [] front p none bare = tt
+already (Quoted bytes ∷ rest) front p none bare =
+    let same = sym (append_assoc front bytes (flat_map span_bytes rest)) in
+    already rest (front ++ bytes) p.1 (subst HasNoLastComma same none) (subst HasNoFirstPoint same bare)
+already (Comment bytes ∷ rest) front p none bare = absurd p.0
+already (Endless bytes ∷ rest) front p none bare = absurd p.0
+already (Single b ∷ rest) front p none bare =
+    let same = sym (append_assoc front (b ∷ []) (flat_map span_bytes rest)) in (
+      λ is. not_true (bracket_next rest) (λ next.
+          let more = closing_begins rest p.1 next in
+          true≢false (sym more.closes ∙ none front more.space more.behind more.b (ap (λ c. front ++ c ∷ flat_map span_bytes rest) is ∙ ap (λ t. front ++ 44 ∷ t) more.is) more.each)),
+      λ white. not_true (point_next rest) (λ next.
+          let point = point_first (flat_map span_bytes rest) next in
+          true≢false (sym white ∙ bare front point.0 b (ap (λ t. front ++ b ∷ t) point.1))),
+      already rest (front ++ b ∷ []) p.1 (subst HasNoLastComma same none) (subst HasNoFirstPoint same bare),
+    )
+
+pub plain_stays_without : (text : List ℕ) → HasNoCommentSign text → HasNoLastComma text → HasNoFirstPoint text → plain text ≡ Some text
+plain_stays_without text no_sign no_comma no_point =
+    let same = sym (bytes_of_spans text) in
+    plain_stays text (already (spans text) [] (all_simple 0 text no_sign) (subst HasNoLastComma same no_comma) (subst HasNoFirstPoint same no_point))

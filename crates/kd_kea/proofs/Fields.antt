@@ -4,7 +4,8 @@ use Rattle.std.specs.Map.{lookup}
 use Rattle.std.specs.Str.{bytes_eq}
 use Rattle.kd_values.specs.Parts.{trimmed}
 use Rattle.kd_values.specs.declared.field_type.FieldType.{FieldType}
-use Rattle.kd_kea.specs.Definitions.{field_types, types_in}
+use Rattle.kd_kea.specs.Definitions.{field_types, standard_records, types_in, usual_vendor}
+use Rattle.kd_kea.specs.declared.objects.definition.Definition.{Definition}
 
 behind_first : (out : List FieldType) (field : FieldType) (o : Option (List FieldType)) → option_map (λ w. out ++ w) (option_and_then (λ others. Some (field ∷ others)) o) ≡ option_map (λ w. (out ++ field ∷ []) ++ w) o
 behind_first out field None = refl
@@ -27,3 +28,7 @@ pub name_refused : (out : List FieldType) (name : List ℕ) (names : List (List 
     → option_map (λ w. out ++ w) (types_in (name ∷ names)) ≡ None
 name_refused out name names is =
     ap (λ (o : Option FieldType). option_map (λ w. out ++ w) (option_and_then (λ first. option_and_then (λ others. Some (first ∷ others)) (types_in names)) o)) is
+
+-- the usual definitions follow others
+pub usual_follow : (definitions : List Definition) → (definitions ++ usual_vendor ∷ []) ++ standard_records ≡ definitions ++ usual_vendor ∷ standard_records
+usual_follow definitions = append_assoc definitions (usual_vendor ∷ []) standard_records

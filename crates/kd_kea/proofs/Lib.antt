@@ -11,8 +11,12 @@ pub mod Inside
 pub mod Fields
 pub mod Scopes
 pub mod Sounds
+pub mod Parts
+pub mod SoundParts
 pub mod SoundKea
 pub mod Whole
 pub mod Noted
 pub mod NoUnknown
 pub mod WorkedNotes
+pub mod Shares
+pub mod WorkedTimes

@@ -1,24 +1,26 @@
 -- What a text of Kea's describes obeys what all settings obey, object by object.
-use Rattle.std.proofs.Common.{◌≡◌, ℕ, true, false, List, ◌++◌, codes, Option, Some, subst}
+use Rattle.std.proofs.Common.{◌≡◌, ◌≤◌, ℕ, ◌-◌, nat_lt, true, false, List, ◌++◌, codes, Option, Some, subst}
 use Rattle.std.specs.Prelude.{option_and_then}
 use Rattle.kd_config.proofs.Tests.{some_is}
 use Rattle.kd_classes.specs.declared.option_list.OptionData.{OptionData}
-use Rattle.kd_config.specs.Sound.{AreOptions, IsIdentity, IsPool, IsSubnet}
+use Rattle.kd_config.specs.Sound.{AreOptions, IsIdentity, IsSubnet}
 use Rattle.kd_config.specs.declared.pool.Pool.{Pool}
+use Rattle.kd_config.specs.declared.range.Range.{Range}
 use Rattle.kd_config.specs.declared.reservation.Reservation.{Reservation}
 use Rattle.kd_config.specs.declared.subnet.Subnet.{Subnet}
-use Rattle.kd_json.proofs.Came.{came_from, each_meant, few_meant, passed}
-use Rattle.kd_json.proofs.SoundSettings.{given_sound, name_sound, prefix_in_sound, range_in_sound}
+use Rattle.kd_json.proofs.Came.{came_from, each_meant, few_meant, passed, passed_only}
+use Rattle.kd_json.proofs.SoundSettings.{given_sound, name_sound, prefix_in_sound, addresses_in_rise}
 use Rattle.kd_json.specs.Class.{class_name_in}
 use Rattle.kd_json.specs.Document.{value_spelled}
 use Rattle.kd_json.specs.Lists.{list_of}
-use Rattle.kd_json.specs.Pool.{pool_range}
+use Rattle.kd_json.specs.Pool.{pool_addresses}
 use Rattle.kd_json.specs.Reservation.{identity_given}
 use Rattle.kd_json.specs.Sound.{AreSettings, IsEntry}
 use Rattle.kd_json.specs.Subnet.{subnet_prefix}
 use Rattle.kd_json.specs.Values.{address_given, text_if_given}
 use Rattle.kd_json.specs.declared.objects.class.ClassEntry.{ClassEntry}
 use Rattle.kd_json.specs.declared.objects.settings.Settings.{Settings}
+use Rattle.kd_kea.proofs.SoundParts.{IsWide, parts_sound}
 use Rattle.kd_kea.proofs.Sounds.{all_sound, options_sound, server_sound, times_sound}
 use Rattle.kd_kea.specs.Class.{kea_class_options, kea_class}
 use Rattle.kd_kea.specs.Definitions.{kea_definitions, kea_known}
@@ -26,12 +28,13 @@ use Rattle.kd_kea.specs.Kea.{kea_settings}
 use Rattle.kd_kea.specs.Keys.{keys_are_read}
 use Rattle.kd_kea.specs.Options.{kea_options, server_address}
 use Rattle.kd_kea.specs.Plain.{plain}
-use Rattle.kd_kea.specs.Pool.{kea_pool}
+use Rattle.kd_kea.specs.Parts.{parts_of_all}
+use Rattle.kd_kea.specs.Pool.{kea_pool, kea_range}
 use Rattle.kd_kea.specs.Reservation.{kea_reservation}
 use Rattle.kd_kea.specs.Settings.{has_server_form, kea_dhcp4, kea_root, kea_settings_with}
 use Rattle.kd_kea.specs.Subnet.{stand_beside, has_subnet_form, is_at_server, kea_subnet, kea_subnet_with}
 use Rattle.kd_kea.specs.Tables.{class_keys, host_keys, pool_keys, root_keys}
-use Rattle.kd_kea.specs.Times.{has_usual_shares, kea_times}
+use Rattle.kd_kea.specs.Times.{has_usual_shares, kea_times, shares_given}
 use Rattle.kd_kea.specs.Values.{flag_given, flag_or, is_whole_if_given}
 use Rattle.kd_kea.specs.declared.objects.definition.Definition.{Definition}
 use Rattle.kd_kea.specs.declared.objects.subnet.Above.{Above}
@@ -39,15 +42,22 @@ use Rattle.kd_wire.specs.Steps.{◌>>=◌}
 use Rattle.serde_json.specs.Data.{Data}
 use Rattle.serde_json.specs.Find.{get}
 
-pool_sound : (known : List Definition) (d : Data) (pool : Pool) → kea_pool known d ≡ Some pool → IsPool pool
+range_rises : (d : Data) (range : Range) → kea_range d ≡ Some range → range.first ≤ range.last
+unfolding kea_range
+range_rises d range e =
+    let found = came_from (pool_addresses d) _ range e in
+    let few = passed_only (nat_lt (found.first.last - found.first.first) 4194304) found.first range found.gives in
+    subst (λ (r : Range). r.first ≤ r.last) few.1 (addresses_in_rise d found.first found.is)
+
+pool_sound : (known : List Definition) (d : Data) (pool : Pool) → kea_pool known d ≡ Some pool → IsWide pool
 unfolding kea_pool
 pool_sound known d pool e =
     let keys = passed (keys_are_read pool_keys d) _ pool e in
-    let range = came_from (option_and_then pool_range (get (codes "pool") d)) _ pool keys.1 in
+    let range = came_from (option_and_then kea_range (get (codes "pool") d)) _ pool keys.1 in
     let options = came_from (kea_options false known (get (codes "option-data") d)) _ pool range.gives in
-    let value = came_from (get (codes "pool") d) pool_range range.first range.is in
-    subst IsPool (some_is _ pool options.gives) (record {
-      range = range_in_sound value.first range.first value.gives;
+    let value = came_from (get (codes "pool") d) kea_range range.first range.is in
+    subst IsWide (some_is _ pool options.gives) (record {
+      some = range_rises value.first range.first value.gives;
       options = options_sound known (get (codes "option-data") d) options.first options.is;
     })
 
@@ -69,15 +79,17 @@ subnet_sound above known d subnet e =
     let here = passed (is_at_server above.server prefix.first (get (codes "interface") d)) _ subnet prefix.gives in
     let class = came_from (text_if_given (get (codes "client-class") d)) _ subnet here.1 in
     let outside = came_from (flag_or above.outside (get (codes "reservations-out-of-pool") d)) _ subnet class.gives in
-    let pools = came_from (list_of 64 (kea_pool known) (get (codes "pools") d)) _ subnet outside.gives in
+    let pools = came_from (list_of 64 (kea_pool known) (get (codes "pools") d) >>= parts_of_all) _ subnet outside.gives in
+    let whole = came_from (list_of 64 (kea_pool known) (get (codes "pools") d)) parts_of_all pools.first pools.is in
+    let parts = parts_sound whole.first pools.first whole.gives (each_meant IsWide (kea_pool known) (pool_sound known) 64 (get (codes "pools") d) whole.first whole.is) in
     let reservations = came_from (list_of 4096 kea_reservation (get (codes "reservations") d)) _ subnet pools.gives in
     let beside = passed (stand_beside outside.first pools.first reservations.first) _ subnet reservations.gives in
     let options = came_from (kea_options false known (get (codes "option-data") d)) _ subnet beside.1 in
     let value = came_from (get (codes "subnet") d) subnet_prefix prefix.first prefix.is in
     subst IsSubnet (some_is _ subnet options.gives) (record {
       prefix = prefix_in_sound value.first prefix.first value.gives;
-      few_pools = few_meant 64 (kea_pool known) (get (codes "pools") d) pools.first pools.is;
-      pools = each_meant IsPool (kea_pool known) (pool_sound known) 64 (get (codes "pools") d) pools.first pools.is;
+      few_pools = parts.0;
+      pools = parts.1;
       few_reservations = few_meant 4096 kea_reservation (get (codes "reservations") d) reservations.first reservations.is;
       reservations = each_meant (λ (r : Reservation). IsIdentity r.identity) kea_reservation reservation_sound 4096 (get (codes "reservations") d) reservations.first reservations.is;
       options = options_sound known (get (codes "option-data") d) options.first options.is;
@@ -113,7 +125,7 @@ dhcp4_sound server d s e =
     let known = came_from (kea_known (get (codes "option-def") d)) _ s outside.gives in
     let options = came_from (kea_options true known.first (get (codes "option-data") d)) _ s known.gives in
     let address = came_from (server_address options.first server) _ s options.gives in
-    let above : Above = record { server = address.first; times = times.first; calculated = calculated.first; outside = outside.first } in
+    let above : Above = record { server = address.first; times = times.first; calculated = calculated.first; shares = shares_given d; outside = outside.first } in
     let classes = came_from (list_of 256 (kea_class known.first) (get (codes "client-classes") d)) _ s address.gives in
     let subnets = came_from (list_of 256 (kea_subnet above known.first) (get (codes "subnet4") d)) _ s classes.gives in
     subst AreSettings (some_is _ s subnets.gives) (record {

@@ -1,5 +1,5 @@
 -- The values of Kea's objects obey what every configuration obeys.
-use Rattle.std.proofs.Common.{◌≡◌, ℕ, ◌≤◌, Bool, true, false, not, cond, ◌&&◌, nat_le, nat_eq, ◌==◌, List, [], ◌∷◌, length, codes, Option, Some, None, refl, subst, ap, ◌∙◌, arith, if◌then◌else◌}
+use Rattle.std.proofs.Common.{◌≡◌, ℕ, ◌≤◌, Bool, true, false, not, cond, ◌&&◌, nat_le, nat_lt, nat_eq, ◌==◌, List, [], ◌∷◌, length, codes, Option, Some, None, refl, subst, ap, ◌∙◌, arith, ltb-true, if◌then◌else◌}
 use Rattle.std.specs.Prelude.{◌||◌, map, option_map}
 use Rattle.std.proofs.lemmas.List.{length-map}
 use Rattle.std.proofs.lemmas.Slice.Eq.{bytes_eq-Decides}
@@ -23,7 +23,7 @@ use Rattle.kd_kea.specs.Options.{address_by, address_in_bytes, code_if_given, co
 use Rattle.kd_kea.specs.declared.objects.definition.Definition.{Definition}
 use Rattle.kd_kea.specs.declared.objects.entry.OptionEntry.{OptionEntry}
 use Rattle.kd_kea.specs.Tables.{data_keys}
-use Rattle.kd_kea.specs.Times.{has_one_lifetime, kea_times, offer_time, usual_rebind, usual_renew}
+use Rattle.kd_kea.specs.Times.{are_in_order, has_one_lifetime, is_asked_for, fits_below, kea_times, offer_time, shares_given, usual_rebind, usual_renew}
 use Rattle.kd_kea.specs.Values.{text_otherwise}
 use Rattle.serde_json.specs.Data.{Data}
 use Rattle.serde_json.specs.Find.{get}
@@ -36,21 +36,30 @@ offer_sound n h = by (n == 0) refl where
   by true e = record { above = omega arith; below = omega arith }
   by false e = record { above = some_server n (ap not e); below = h.below }
 
+within_sound : (asked : Bool) (time bound : ℕ) → fits_below asked time bound ≡ true → time ≤ bound
+within_sound true time bound e = omega (arith, ltb-true time bound e)
+within_sound false time bound e = leb-true time bound e
+
 pub times_sound : (calculated : Bool) (d : Data) (t : Times) → kea_times calculated d ≡ Some t → AreTimes t
 unfolding kea_times
 times_sound calculated d t e =
     let lifetime = came_from (number_if_given 1 longest_lease 7200 (get (codes "valid-lifetime") d)) _ t e in
     let one = passed (has_one_lifetime lifetime.first d) _ t lifetime.gives in
-    let renew = came_from (number_if_given 1 longest_lease (usual_renew calculated lifetime.first) (get (codes "renew-timer") d)) _ t one.1 in
-    let rebind = came_from (number_if_given 1 longest_lease (usual_rebind calculated lifetime.first) (get (codes "rebind-timer") d)) _ t renew.gives in
-    let order = passed (nat_le renew.first rebind.first && nat_le rebind.first lifetime.first) _ t rebind.gives in
-    let both = both_passed (nat_le renew.first rebind.first) (nat_le rebind.first lifetime.first) order.0 in
+    let renew_given = get (codes "renew-timer") d in
+    let rebind_given = get (codes "rebind-timer") d in
+    let renew_asked = is_asked_for calculated renew_given in
+    let rebind_asked = is_asked_for calculated rebind_given in
+    let renew = came_from (number_if_given 1 longest_lease (usual_renew calculated (shares_given d) lifetime.first) renew_given) _ t one.1 in
+    let rebind = came_from (number_if_given 1 longest_lease (usual_rebind calculated (shares_given d) lifetime.first) rebind_given) _ t renew.gives in
+    let order = passed (are_in_order renew_asked rebind_asked renew.first rebind.first lifetime.first) _ t rebind.gives in
+    let first = both_passed ((not renew_asked || nat_lt 0 renew.first) && fits_below (renew_asked && rebind_asked) renew.first rebind.first) (fits_below rebind_asked rebind.first lifetime.first) order.0 in
+    let second = both_passed (not renew_asked || nat_lt 0 renew.first) (fits_below (renew_asked && rebind_asked) renew.first rebind.first) first.0 in
     let offer = came_from (number_if_given 0 86400 0 (get (codes "offer-lifetime") d)) _ t order.1 in
     let decline = came_from (number_if_given 1 31536000 86400 (get (codes "decline-probation-period") d)) _ t offer.gives in
     subst AreTimes (some_is _ t decline.gives) (record {
       lifetime = number_or_sound 1 longest_lease 7200 (get (codes "valid-lifetime") d) lifetime.first (record { above = omega arith; below = omega arith }) lifetime.is;
-      renew = leb-true renew.first rebind.first both.0;
-      rebind = leb-true rebind.first lifetime.first both.1;
+      renew = within_sound (renew_asked && rebind_asked) renew.first rebind.first second.1;
+      rebind = within_sound rebind_asked rebind.first lifetime.first first.1;
       offer_hold = offer_sound offer.first (number_or_sound 0 86400 0 (get (codes "offer-lifetime") d) offer.first (record { above = omega arith; below = omega arith }) offer.is);
       decline_hold = number_or_sound 1 31536000 86400 (get (codes "decline-probation-period") d) decline.first (record { above = omega arith; below = omega arith }) decline.is;
     })

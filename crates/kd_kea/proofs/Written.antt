@@ -3,7 +3,7 @@ use Rattle.std.proofs.Common.{◌≡◌, ℕ, ◌<◌, Bool, true, false, ◌==�
 use Rattle.std.specs.List.{list_any}
 use Rattle.std.specs.Option.{ForSome}
 use Rattle.std.proofs.lemmas.List.{append-nil, set-append_left}
-use Rattle.kd_kea.specs.Plain.{Span, Single, a_json_space, a_closing_bracket, bracket_next, is_endless, json_bytes, plain, spans, spans_behind}
+use Rattle.kd_kea.specs.Plain.{Span, Single, a_json_space, a_closing_bracket, bracket_next, is_endless, json_bytes, plain, spans, spans_behind, with_zeros}
 use Rattle.kd_kea.specs.Output.{with_comma, json_behind, TakesSpan}
 
 -- without a closing bracket behind it the comma stays
@@ -36,10 +36,10 @@ takes_space b bytes comma others comma' is h same stays = λ rest.
     ∙ rw (is, space_no_comma b is) (takes_white (b ∷ []) bytes comma rest h)
 
 -- when no text is left, all of it is written
-pub all_written : (text rest bytes : List ℕ) (comma : Option ℕ) → rest ≡ [] → json_behind bytes comma (spans rest) ≡ json_bytes (spans text) → list_any is_endless (spans rest) ≡ list_any is_endless (spans text) → Some bytes ≡ plain text
+pub all_written : (text rest bytes : List ℕ) (comma : Option ℕ) (apart : Bool) → rest ≡ [] → json_behind bytes comma (with_zeros apart (spans rest)) ≡ json_bytes (with_zeros true (spans text)) → list_any is_endless (spans rest) ≡ list_any is_endless (spans text) → Some bytes ≡ plain text
 unfolding spans_behind
-all_written text rest bytes comma none same endless =
-    let whole : bytes ≡ json_bytes (spans text) =
-    sym (stays bytes comma) ∙ sym (append-nil (with_comma bytes comma false)) ∙ ap (λ t. json_behind bytes comma (spans t)) (sym none) ∙ same in
+all_written text rest bytes comma apart none same endless =
+    let whole : bytes ≡ json_bytes (with_zeros true (spans text)) =
+    sym (stays bytes comma) ∙ sym (append-nil (with_comma bytes comma false)) ∙ ap (λ t. json_behind bytes comma (with_zeros apart (spans t))) (sym none) ∙ same in
     let ends : list_any is_endless (spans text) ≡ false = sym endless ∙ ap (λ t. list_any is_endless (spans t)) none in
-    ap Some whole ∙ ap (λ k. if k then None else Some (json_bytes (spans text))) (sym ends)
+    ap Some whole ∙ ap (λ k. if k then None else Some (json_bytes (with_zeros true (spans text)))) (sym ends)

@@ -118,11 +118,26 @@ abbrev pub usual_vendor : Definition
 usual_vendor =
     record { space = codes "dhcp4"; code = 43; name = codes "vendor-encapsulated-options"; fields = Some []; repeats = false; inner = vendor_space }
 
--- the definitions of the whole server: those of its list, and then the usual one
+-- a standard option whose value is a record of these fields
+abbrev pub record_option : ℕ → List ℕ → List FieldType → Bool → Definition
+record_option code name fields repeats =
+    record { space = codes "dhcp4"; code = code; name = name; fields = Some fields; repeats = repeats; inner = [] }
+
+-- the standard options that are records (RFC 2610, 4578 and 6731), as Kea defines them
+abbrev pub standard_records : List Definition
+standard_records =
+    record_option 78 (codes "slp-directory-agent") (types.Flag ∷ types.Address ∷ []) true
+    ∷ record_option 79 (codes "slp-service-scope") (types.Flag ∷ types.Text ∷ []) false
+    ∷ record_option 94 (codes "client-ndi") (types.Uint8 ∷ types.Uint8 ∷ types.Uint8 ∷ []) false
+    ∷ record_option 97 (codes "uuid-guid") (types.Uint8 ∷ types.Bytes ∷ []) false
+    ∷ record_option 146 (codes "rdnss-selection") (types.Uint8 ∷ types.Address ∷ types.Address ∷ types.Name ∷ []) true
+    ∷ []
+
+-- the definitions of the whole server: those of its list, and then the usual ones
 unfoldable pub kea_known : Option Data → Option (List Definition)
 kea_known value = do
   definitions ← kea_definitions false value
-  Some (definitions ++ usual_vendor ∷ [])
+  Some (definitions ++ usual_vendor ∷ standard_records)
 
 -- the definition of the option of a space with a code
 abbrev pub defined_at : List Definition → List ℕ → ℕ → Option Definition

@@ -5,11 +5,14 @@ pub mod Keys
 pub mod Tables
 pub mod Values
 pub mod Definitions
+pub mod RecordRows
+pub mod Quoted
 pub mod OptionValue
 pub mod Options
 pub mod Times
 pub mod Class
 pub mod Pool
+pub mod Parts
 pub mod Reservation
 pub mod Subnet
 pub mod Hooks

@@ -1,18 +1,43 @@
 -- The notes on a configuration of Kea's (our own format): the keys that are skipped because no client
--- notices them, and the keys that are refused, each with its path (RFC 6901). The keys of an object
--- come first, in order, and then those of the objects in it.
-use Rattle.std.specs.Prelude.{ℕ, ◌+◌, Bool, true, false, if◌then◌else◌, List, [], ◌∷◌, ◌++◌, codes, decimal, option_map, string_bytes, Option, Some, None}
+-- notices them, the keys that are refused, and the values that are wrong, each with its path
+-- (RFC 6901). The keys of an object come first, in order, then those of its keys that are served with
+-- some values only, then its own values, and then what is in it. A value is wrong if it describes
+-- nothing although nothing in it is refused.
+use Rattle.std.specs.Prelude.{ℕ, ◌+◌, Bool, true, false, ◌||◌, if◌then◌else◌, List, [], ◌∷◌, ◌++◌, codes, decimal, option_map, string_bytes, Option, Some, None, is_some}
 use Rattle.std.specs.List.{flat_map, list_any}
 use Rattle.serde_json.specs.Data.{Data, Items, no_items, item, Members, no_members, member}
-use Rattle.serde_json.specs.Find.{as_array, as_object, get}
+use Rattle.serde_json.specs.Find.{as_array, as_object, as_str, get}
+use Rattle.kd_config.specs.Sound.{longest_lease}
+use Rattle.kd_config.specs.declared.prefix.Prefix.{Prefix}
+use Rattle.kd_config.specs.declared.times.Times.{Times}
+use Rattle.kd_json.specs.Class.{class_name_in}
 use Rattle.kd_json.specs.Document.{value_spelled}
 use Rattle.kd_json.specs.FirstFault.{path_below}
-use Rattle.kd_kea.specs.Keys.{KeyUse, key_use, may_have, skipped}
+use Rattle.kd_json.specs.Lists.{items_or_none, list_of}
+use Rattle.kd_json.specs.Subnet.{subnet_prefix}
+use Rattle.kd_json.specs.Values.{number_if_given, text_if_given}
+use Rattle.kd_kea.specs.Class.{kea_class}
+use Rattle.kd_kea.specs.Definitions.{kea_definition, kea_definitions, kea_known, standard_records, usual_vendor}
+use Rattle.kd_kea.specs.Hooks.{hooks_are_quiet}
+use Rattle.kd_kea.specs.Keys.{KeyUse, Plain, flag, fraction, is_plain, key_use, may_have, no_list, skipped, whole}
+use Rattle.kd_kea.specs.Options.{is_served_space, kea_entry, kea_options, server_address}
 use Rattle.kd_kea.specs.Plain.{plain}
+use Rattle.kd_kea.specs.Parts.{parts_of_all}
+use Rattle.kd_kea.specs.Pool.{kea_pool, kea_range}
+use Rattle.kd_kea.specs.Reservation.{kea_reservation}
+use Rattle.kd_kea.specs.Settings.{finds_reservations, kea_dhcp4, kea_root, turns_nothing_on}
+use Rattle.kd_kea.specs.Subnet.{is_at_server, kea_subnet, stand_beside}
 use Rattle.kd_kea.specs.Tables.{class_keys, data_keys, definition_keys, host_keys, pool_keys, relay_keys, root_keys, server_keys, subnet_keys}
+use Rattle.kd_kea.specs.Times.{are_shares, kea_times, share_key, shares_given, times_key, usual_rebind, usual_renew}
+use Rattle.kd_kea.specs.Values.{flag_given, flag_or, is_plain_if_given}
 use Rattle.kd_kea.specs.declared.notes.Note.{Note}
 use Rattle.kd_kea.specs.declared.notes.NoteKind.{NoteKind}
-use Rattle.kd_kea.specs.declared.notes.NoteKind.TheVariants.{Skipped, Unknown}
+use Rattle.kd_kea.specs.declared.notes.NoteKind.TheVariants.{Skipped, Unknown, Wrong}
+use Rattle.kd_kea.specs.declared.notes.around.Around.{Around}
+use Rattle.kd_kea.specs.declared.objects.times.Shares.{Shares}
+use Rattle.kd_kea.specs.declared.objects.definition.Definition.{Definition}
+use Rattle.kd_kea.specs.declared.objects.subnet.Above.{Above}
+use Rattle.kd_kea.specs.declared.objects.times.TheConstants.{HALF, SEVEN_EIGHTHS}
 use Rattle.kd_names.specs.Values.{sign_text}
 use Rattle.kd_wire.specs.Steps.{◌>>=◌}
 
@@ -86,62 +111,405 @@ notes_at notes path key d = value_notes notes (path_below path key) (get key d)
 abbrev pub notes_of_each : ObjectNotes → List ℕ → List ℕ → Data → List KeyNote
 notes_of_each notes path key d = list_notes notes (path_below path key) (get key d >>= as_array)
 
+-- ---- what is refused
+
+-- a note refuses something: a key, or a value
+abbrev pub is_refusal : NoteKind → Bool
+is_refusal Skipped = false
+is_refusal Unknown = true
+is_refusal Wrong = true
+
+-- one of the notes refuses something
+abbrev pub have_refused : List KeyNote → Bool
+have_refused notes = list_any (λ note. is_refusal note.1) notes
+
+-- the notes on what is in the value at a path; and that it is wrong itself, if it describes nothing
+-- although none of them refuses anything
+abbrev pub or_wrong : Bool → List ℕ → List KeyNote → List KeyNote
+or_wrong described path notes =
+    if have_refused notes || described then notes else notes ++ (path, Wrong) ∷ []
+
+-- the same of a value that is to be an object
+abbrev pub object_notes : Bool → List ℕ → Data → List KeyNote → List KeyNote
+object_notes described path d notes =
+    if is_some (as_object d) then or_wrong described path notes else (path, Wrong) ∷ []
+
+-- ---- keys that are served with some values only
+
+-- the note of a kind on a key of the object at a path, unless a test holds
+abbrev pub note_unless : Bool → NoteKind → List ℕ → List ℕ → List KeyNote
+note_unless true kind path key = []
+note_unless false kind path key = (path_below path key, kind) ∷ []
+
+-- the note that a key of the object at a path is refused, unless it is absent or has this value
+abbrev pub usual_note : Plain → List ℕ → List ℕ → Data → List KeyNote
+usual_note plain path key d = note_unless (is_plain_if_given plain (get key d)) Unknown path key
+
+-- the note on a value that turns nothing on, which is skipped, or else on what is refused of it: its
+-- key, or the value itself, which is wrong if it is no object
+abbrev pub off_note : Bool → Bool → List ℕ → List ℕ → List KeyNote
+off_note true is_object path key = (path, Skipped) ∷ []
+off_note false true path key = (path_below path key, Unknown) ∷ []
+off_note false false path key = (path, Wrong) ∷ []
+
+-- the note on a value whose key is to be absent or to have this value
+abbrev pub off_notes : List ℕ → Plain → ObjectNotes
+off_notes key plain path d =
+    off_note (turns_nothing_on key plain (Some d)) (is_some (as_object d)) path key
+
+-- what is noted of hooks: they are skipped if they change nothing for clients
+abbrev pub hook_kind : Bool → NoteKind
+hook_kind true = Skipped
+hook_kind false = Unknown
+
+-- the note on the list of hooks
+abbrev pub hook_notes : ObjectNotes
+hook_notes path d = (path, hook_kind (hooks_are_quiet (Some d))) ∷ []
+
+-- the note on a share of T1 or T2 that is not used: it is skipped, unless it is the usual one
+abbrev pub unused_share : Plain → ObjectNotes
+unused_share plain path d = if is_plain plain d then [] else (path, Skipped) ∷ []
+
+-- the notes on shares of T1 and T2 that are not used, because the times are not calculated
+abbrev pub unused_shares : ObjectNotes
+unused_shares path d =
+    notes_at (unused_share (fraction HALF)) path (codes "t1-percent") d
+    ++ notes_at (unused_share (fraction SEVEN_EIGHTHS)) path (codes "t2-percent") d
+
+-- the notes on the shares of T1 and T2 of the whole server, if it is known whether the times are
+-- calculated: they are wrong, or not used
+abbrev pub share_notes : Option Bool → ObjectNotes
+share_notes None path d = []
+share_notes (Some true) path d =
+    note_unless (are_shares (shares_given d)) Wrong path (share_key d)
+share_notes (Some false) path d = unused_shares path d
+
+-- the notes on the shares of a subnet, which may only be those of the whole server if the times are
+-- calculated
+abbrev pub repeated_shares : Option Bool → Shares → ObjectNotes
+repeated_shares None shares path d = []
+repeated_shares (Some true) shares path d =
+    usual_note (fraction shares.renew) path (codes "t1-percent") d
+    ++ usual_note (fraction shares.rebind) path (codes "t2-percent") d
+repeated_shares (Some false) shares path d = unused_shares path d
+
+-- the note on a time that may only be one of the whole server, if that is known
+abbrev pub time_note : Option ℕ → List ℕ → ObjectNotes
+time_note None key path d = []
+time_note (Some time) key path d = usual_note (whole time) path key d
+
+-- the notes on the least and the greatest lifetime, which may only be the lifetime
+abbrev pub limit_notes : Option ℕ → ObjectNotes
+limit_notes lifetime path d =
+    time_note lifetime (codes "min-valid-lifetime") path d
+    ++ time_note lifetime (codes "max-valid-lifetime") path d
+
+-- the lifetime in the value of `Dhcp4`
+abbrev pub lifetime_in : Data → Option ℕ
+lifetime_in d = number_if_given 1 longest_lease 7200 (get (codes "valid-lifetime") d)
+
+-- the notes on what other services and hooks do, and on where the configuration is kept
+unfoldable pub service_notes : ObjectNotes
+service_notes path d =
+    notes_at (off_notes (codes "enable-updates") (flag false)) path (codes "dhcp-ddns") d
+    ++ notes_at (off_notes (codes "config-databases") no_list) path (codes "config-control") d
+    ++ note_unless (finds_reservations (get (codes "host-reservation-identifiers") d)) Unknown
+    path (codes "host-reservation-identifiers")
+    ++ notes_at hook_notes path (codes "hooks-libraries") d
+
+-- the notes on such keys of `Dhcp4`
+unfoldable pub server_values : ObjectNotes
+server_values path d =
+    service_notes path d
+    ++ share_notes (flag_given (get (codes "calculate-tee-times") d)) path d
+
+-- ---- such keys of a subnet, by what holds for the whole server
+
+-- the server's address, by the value of `Dhcp4` and an address that is given beside it
+unfoldable pub kea_address : Option ℕ → Data → Option ℕ
+kea_address server d = do
+  known ← kea_known (get (codes "option-def") d)
+  options ← kea_options true known (get (codes "option-data") d)
+  server_address options server
+
+-- T1 in the value of `Dhcp4`
+unfoldable pub renew_in : Data → Option ℕ
+renew_in d = do
+  calculated ← flag_given (get (codes "calculate-tee-times") d)
+  lifetime ← lifetime_in d
+  number_if_given 1 longest_lease (usual_renew calculated (shares_given d) lifetime) (get (codes "renew-timer") d)
+
+-- T2 in the value of `Dhcp4`
+unfoldable pub rebind_in : Data → Option ℕ
+rebind_in d = do
+  calculated ← flag_given (get (codes "calculate-tee-times") d)
+  lifetime ← lifetime_in d
+  number_if_given 1 longest_lease (usual_rebind calculated (shares_given d) lifetime) (get (codes "rebind-timer") d)
+
+-- the lease and offer times in the value of `Dhcp4`
+unfoldable pub all_times : Data → Option Times
+all_times d = do
+  calculated ← flag_given (get (codes "calculate-tee-times") d)
+  kea_times calculated d
+
+-- what holds for the whole server by the value of `Dhcp4`, each part if it is right by itself
+unfoldable pub around_of : Option ℕ → Data → Around
+around_of server d =
+    record { address = kea_address server d; times = all_times d; calculated = flag_given (get (codes "calculate-tee-times") d); shares = shares_given d; outside = flag_given (get (codes "reservations-out-of-pool") d); lifetime = lifetime_in d; renew = renew_in d; rebind = rebind_in d }
+
+-- what holds for the whole server, if all of it is right
+unfoldable pub above_by : Around → Option Above
+above_by around = do
+  server ← around.address
+  times ← around.times
+  calculated ← around.calculated
+  outside ← around.outside
+  Some (record { server = server; times = times; calculated = calculated; shares = around.shares; outside = outside })
+
+-- the note on whether the times of a subnet are calculated, which is as for the whole server
+abbrev pub calculated_notes : Option Bool → ObjectNotes
+calculated_notes None path d = []
+calculated_notes (Some calculated) path d =
+    usual_note (flag calculated) path (codes "calculate-tee-times") d
+
+-- the note on the interface of a subnet, which may only be the one with the server's address, if that
+-- and the subnet's prefix are known
+abbrev pub interface_notes : Option ℕ → Option Prefix → ObjectNotes
+interface_notes None prefix path d = []
+interface_notes (Some server) None path d = []
+interface_notes (Some server) (Some prefix) path d =
+    note_unless (is_at_server server prefix (get (codes "interface") d)) Unknown path
+    (codes "interface")
+
+-- the notes on the times of a subnet, which may only be those of the whole server
+unfoldable pub repeated_notes : Around → ObjectNotes
+repeated_notes around path d =
+    time_note around.lifetime (codes "valid-lifetime") path d
+    ++ limit_notes around.lifetime path d
+    ++ time_note around.renew (codes "renew-timer") path d
+    ++ time_note around.rebind (codes "rebind-timer") path d
+
+-- the notes on such keys of a subnet
+unfoldable pub subnet_values : Around → ObjectNotes
+subnet_values around path d =
+    repeated_notes around path d
+    ++ calculated_notes around.calculated path d
+    ++ repeated_shares around.calculated around.shares path d
+    ++ interface_notes around.address (get (codes "subnet") d >>= subnet_prefix) path d
+
+-- ---- values that are wrong by themselves
+
+-- the note that the number at a key is wrong, unless it is absent or in a range
+abbrev pub number_note : ℕ → ℕ → List ℕ → ObjectNotes
+number_note least most key path d =
+    note_unless (is_some (number_if_given least most least (get key d))) Wrong path key
+
+-- the note that the truth value at a key is wrong, unless it is absent or one
+abbrev pub flag_note : List ℕ → ObjectNotes
+flag_note key path d = note_unless (is_some (flag_given (get key d))) Wrong path key
+
+-- the note that the text at a key is wrong, unless it is absent or one
+abbrev pub text_note : List ℕ → ObjectNotes
+text_note key path d = note_unless (is_some (text_if_given (get key d))) Wrong path key
+
+-- the notes of a list at a key, which has at most `most` items, and of its items
+abbrev pub listed_notes : ℕ → ObjectNotes → List ℕ → ObjectNotes
+listed_notes most notes key path d =
+    note_unless (is_some (items_or_none most (get key d))) Wrong path key
+    ++ notes_of_each notes path key d
+
+-- the notes on the lease times in the value of `Dhcp4`, each by itself
+unfoldable pub lease_notes : ObjectNotes
+lease_notes path d =
+    number_note 1 longest_lease (codes "valid-lifetime") path d
+    ++ limit_notes (lifetime_in d) path d
+    ++ number_note 1 longest_lease (codes "renew-timer") path d
+    ++ number_note 1 longest_lease (codes "rebind-timer") path d
+
+-- the notes on the lease and offer times in the value of `Dhcp4`: each by itself, and then one
+-- of them if they are not in order
+unfoldable pub server_times : ObjectNotes
+server_times path d =
+    or_wrong (is_some (all_times d)) (path_below path (times_key d))
+    (flag_note (codes "calculate-tee-times") path d
+    ++ lease_notes path d
+    ++ number_note 0 86400 (codes "offer-lifetime") path d
+    ++ number_note 1 31536000 (codes "decline-probation-period") path d)
+
+-- ---- definitions, each by itself
+
+-- what an item describes, if it describes anything, before what others do
+abbrev pub with_first : {A : Type 0} → Option A → List A → List A
+with_first None others = others
+with_first (Some it) others = it ∷ others
+
+-- what the items describe that describe anything
+abbrev pub each_described : {A : Type 0} → (Data → Option A) → Items → List A
+each_described means no_items = []
+each_described means (item d ds) = with_first (means d) (each_described means ds)
+
+-- the items of a list; none of another value
+abbrev pub items_of : Option Items → Items
+items_of None = no_items
+items_of (Some items) = items
+
+-- the definitions of options in an object that are right by themselves
+unfoldable pub right_definitions : Bool → Data → List Definition
+right_definitions in_class d =
+    each_described (kea_definition in_class) (items_of (get (codes "option-def") d >>= as_array))
+
+-- the definitions by which options are read: those that are right by themselves, and the usual one
+unfoldable pub usable_definitions : Data → List Definition
+usable_definitions d = right_definitions false d ++ usual_vendor ∷ standard_records
+
 -- ---- the kinds of objects
 
--- the notes of the options of the object at a path
-abbrev pub option_notes : List ℕ → Data → List KeyNote
-option_notes path d = notes_of_each (own_notes data_keys) path (codes "option-data") d
+-- a space, if it is given, is one whose options are read
+abbrev pub is_served_if_given : Option (List ℕ) → Bool
+is_served_if_given None = true
+is_served_if_given (Some space) = is_served_space space
 
--- the notes of the definitions of options of the object at a path
-abbrev pub definition_notes : List ℕ → Data → List KeyNote
-definition_notes path d = notes_of_each (own_notes definition_keys) path (codes "option-def") d
+-- the notes of an option at a path, by these definitions
+unfoldable pub data_notes : Bool → List Definition → ObjectNotes
+data_notes for_all known path d =
+    object_notes (is_some (kea_entry for_all known d)) path d
+    (own_notes data_keys path d
+    ++ note_unless (is_served_if_given (get (codes "space") d >>= as_str)) Unknown path
+    (codes "space"))
+
+-- the notes of the options of the object at a path: of each, and then of the list
+unfoldable pub option_notes : Bool → List Definition → ObjectNotes
+option_notes for_all known path d =
+    or_wrong (is_some (kea_options for_all known (get (codes "option-data") d)))
+    (path_below path (codes "option-data"))
+    (notes_of_each (data_notes for_all known) path (codes "option-data") d)
+
+-- the notes of a definition of an option at a path
+unfoldable pub definition_note : Bool → ObjectNotes
+definition_note in_class path d =
+    object_notes (is_some (kea_definition in_class d)) path d (own_notes definition_keys path d)
+
+-- the notes of the definitions of options of the object at a path: of each, and then of the list
+unfoldable pub definition_notes : Bool → ObjectNotes
+definition_notes in_class path d =
+    or_wrong (is_some (kea_definitions in_class (get (codes "option-def") d)))
+    (path_below path (codes "option-def"))
+    (notes_of_each (definition_note in_class) path (codes "option-def") d)
 
 -- the notes of a pool at a path
-unfoldable pub pool_notes : List ℕ → Data → List KeyNote
-pool_notes path d = own_notes pool_keys path d ++ option_notes path d
+unfoldable pub pool_notes : List Definition → ObjectNotes
+pool_notes known path d =
+    object_notes (is_some (kea_pool known d)) path d
+    (own_notes pool_keys path d
+    ++ note_unless (is_some (get (codes "pool") d >>= kea_range)) Wrong path (codes "pool")
+    ++ option_notes false known path d)
 
--- the notes of a class at a path
-unfoldable pub class_notes : List ℕ → Data → List KeyNote
-class_notes path d =
-    own_notes class_keys path d ++ definition_notes path d ++ option_notes path d
+-- the notes of a reservation at a path
+unfoldable pub host_notes : ObjectNotes
+host_notes path d =
+    object_notes (is_some (kea_reservation d)) path d (own_notes host_keys path d)
 
--- the notes of a subnet at a path
-unfoldable pub subnet_notes : List ℕ → Data → List KeyNote
-subnet_notes path d =
-    own_notes subnet_keys path d
-    ++ option_notes path d
-    ++ notes_of_each pool_notes path (codes "pools") d
-    ++ notes_of_each (own_notes host_keys) path (codes "reservations") d
-    ++ notes_at (own_notes relay_keys) path (codes "relay") d
+-- the notes of a class at a path; its own definitions come before those of the whole server
+unfoldable pub class_notes : List Definition → ObjectNotes
+class_notes known path d =
+    object_notes (is_some (kea_class known d)) path d
+    (own_notes class_keys path d
+    ++ note_unless (is_some (get (codes "name") d >>= class_name_in)) Wrong path (codes "name")
+    ++ text_note (codes "test") path d
+    ++ definition_notes true path d
+    ++ option_notes false (right_definitions true d ++ known) path d)
 
--- the notes of the value of `Dhcp4`, which is at a path
-unfoldable pub server_notes : List ℕ → Data → List KeyNote
-server_notes path d =
-    own_notes server_keys path d
-    ++ definition_notes path d
-    ++ option_notes path d
-    ++ notes_of_each class_notes path (codes "client-classes") d
-    ++ notes_of_each subnet_notes path (codes "subnet4") d
+-- whether reservations may stand beside the pools of a subnet, if all that says so is right
+unfoldable pub kea_beside : Option Bool → List Definition → Data → Option Bool
+kea_beside given known d = do
+  other ← given
+  outside ← flag_or other (get (codes "reservations-out-of-pool") d)
+  pools ← list_of 64 (kea_pool known) (get (codes "pools") d) >>= parts_of_all
+  reservations ← list_of 4096 kea_reservation (get (codes "reservations") d)
+  Some (stand_beside outside pools reservations)
+
+-- a test was passed, or not made
+abbrev pub is_not_failed : Option Bool → Bool
+is_not_failed None = true
+is_not_failed (Some passed) = passed
+
+-- the note that reservations of a subnet are not looked for outside pools alone, if a pool has one
+abbrev pub beside_note : Option Bool → List Definition → ObjectNotes
+beside_note given known path d =
+    note_unless (is_not_failed (kea_beside given known d)) Unknown path
+    (codes "reservations-out-of-pool")
+
+-- the notes of the relay of a subnet at a path
+unfoldable pub relay_notes : ObjectNotes
+relay_notes path d = object_notes true path d (own_notes relay_keys path d)
+
+-- a subnet is described, if it is known what holds above it
+abbrev pub kea_below : Option Above → List Definition → Data → Option (Unit {0})
+kea_below None known d = Some tt
+kea_below (Some above) known d = do
+  _ ← kea_subnet above known d
+  Some tt
+
+-- the notes on the values of a subnet that are wrong by themselves
+unfoldable pub subnet_own : ObjectNotes
+subnet_own path d =
+    number_note 1 4294967294 (codes "id") path d
+    ++ note_unless (is_some (get (codes "subnet") d >>= subnet_prefix)) Wrong path (codes "subnet")
+    ++ text_note (codes "client-class") path d
+    ++ flag_note (codes "reservations-out-of-pool") path d
+
+-- the notes on the lists and the relay of a subnet, by these definitions
+unfoldable pub subnet_lists : List Definition → ObjectNotes
+subnet_lists known path d =
+    option_notes false known path d
+    ++ listed_notes 64 (pool_notes known) (codes "pools") path d
+    ++ listed_notes 4096 host_notes (codes "reservations") path d
+    ++ notes_at relay_notes path (codes "relay") d
+
+-- the notes of a subnet at a path, by what holds for the whole server and these definitions
+unfoldable pub subnet_notes : Around → List Definition → ObjectNotes
+subnet_notes around known path d =
+    object_notes (is_some (kea_below (above_by around) known d)) path d
+    (own_notes subnet_keys path d
+    ++ subnet_values around path d
+    ++ subnet_own path d
+    ++ beside_note around.outside known path d
+    ++ subnet_lists known path d)
+
+-- the notes on the lists in the value of `Dhcp4`, by what holds for the whole server and these
+-- definitions
+unfoldable pub lists_by : Around → List Definition → ObjectNotes
+lists_by around known path d =
+    definition_notes false path d
+    ++ option_notes true known path d
+    ++ listed_notes 256 (class_notes known) (codes "client-classes") path d
+    ++ listed_notes 256 (subnet_notes around known) (codes "subnet4") path d
+
+-- the notes on these lists, for a server with this address if no option has another
+unfoldable pub server_lists : Option ℕ → ObjectNotes
+server_lists server path d = lists_by (around_of server d) (usable_definitions d) path d
+
+-- the notes of the value of `Dhcp4`, which is at a path, for such a server
+unfoldable pub server_notes : Option ℕ → ObjectNotes
+server_notes server path d =
+    object_notes (is_some (kea_dhcp4 server d)) path d
+    (own_notes server_keys path d
+    ++ server_values path d
+    ++ server_times path d
+    ++ flag_note (codes "reservations-out-of-pool") path d
+    ++ server_lists server path d)
 
 -- the notes of the value of a whole text
-unfoldable pub root_notes : Data → List KeyNote
-root_notes d = own_notes root_keys [] d ++ notes_at server_notes [] (codes "Dhcp4") d
+unfoldable pub root_notes : Option ℕ → Data → List KeyNote
+root_notes server d =
+    object_notes (is_some (kea_root server d)) [] d
+    (own_notes root_keys [] d ++ notes_at (server_notes server) [] (codes "Dhcp4") d)
 
 -- the value that a text of Kea's spells
 unfoldable pub kea_value : List ℕ → Option Data
 kea_value text = plain text >>= value_spelled
 
--- the notes of a text; nothing if it is not JSON
-abbrev pub kea_notes : List ℕ → Option (List KeyNote)
-kea_notes text = option_map root_notes (kea_value text)
-
--- ---- what is refused
-
--- a key is refused
-abbrev pub is_unknown : NoteKind → Bool
-is_unknown Skipped = false
-is_unknown Unknown = true
-
--- one of the notes is on a key that is refused
-abbrev pub have_unknown : List KeyNote → Bool
-have_unknown notes = list_any (λ note. is_unknown note.1) notes
+-- the notes of a text, for a server with this address if no option has another; nothing if it is not
+-- JSON
+abbrev pub kea_notes : List ℕ → Option ℕ → Option (List KeyNote)
+kea_notes text server = option_map (root_notes server) (kea_value text)

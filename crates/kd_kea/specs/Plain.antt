@@ -1,7 +1,8 @@
 -- The text of a configuration as Kea reads it (Kea Administrator Reference Manual, section JSON
 -- Syntax), and the JSON text (RFC 8259) of the same length that it stands for. Kea also allows
--- comments, and a comma before a closing bracket. Bytes are ASCII codes.
-use Rattle.std.specs.Prelude.{ℕ, zero, suc, ◌+◌, ◌-◌, Bool, true, false, ◌||◌, ◌&&◌, ◌==◌, nat_eq, List, [], ◌∷◌, ◌++◌, length, take, drop, map, flat_map, codes, Option, Some, None, option_map, unwrap_or, if◌then◌else◌}
+-- comments, a comma before a closing bracket, and a number that begins with its point. Bytes are
+-- ASCII codes.
+use Rattle.std.specs.Prelude.{ℕ, zero, suc, ◌+◌, ◌-◌, Bool, true, false, not, ◌||◌, ◌&&◌, ◌==◌, nat_eq, nat_le, List, [], ◌∷◌, ◌++◌, length, take, drop, map, flat_map, codes, Option, Some, None, option_map, unwrap_or, if◌then◌else◌}
 use Rattle.std.specs.List.{starts_with, before_first, prefix_len, list_any}
 
 -- a part of a text: a string with its quotation marks, a comment with its signs, a block comment
@@ -115,6 +116,35 @@ json_bytes (Endless bytes ∷ rest) = blanks bytes ++ json_bytes rest
 json_bytes (Single b ∷ rest) =
     (if a_comma b && bracket_next rest then 32 else b) ∷ json_bytes rest
 
+-- a point comes next
+abbrev pub point_next : List Span → Bool
+point_next rest = starts_with nat_eq (flat_map span_bytes rest) (codes ".")
+
+-- white space in a line
+abbrev pub a_blank_in_line : ℕ → Bool
+a_blank_in_line b = a_json_space b && not (a_line_feed b)
+
+-- a number may begin behind a span and white space: the span is no digit and no minus sign
+abbrev pub is_apart : Span → Bool
+is_apart (Single b) = not (b == 45 || (nat_le 48 b && nat_le b 57))
+is_apart span = true
+
+-- a byte, or a zero for white space before a point, if a number may begin there
+abbrev pub byte_or_zero : Bool → ℕ → List Span → ℕ
+byte_or_zero apart b rest = if apart && a_blank_in_line b && point_next rest then 48 else b
+
+-- a span, or a zero for white space before a point
+abbrev pub span_or_zero : Bool → Span → List Span → Span
+span_or_zero apart (Single b) rest = Single (byte_or_zero apart b rest)
+span_or_zero apart span rest = span
+
+-- spans with a zero before each point that begins a number behind white space; the argument says
+-- whether a number may begin there
+abbrev pub with_zeros : Bool → List Span → List Span
+with_zeros apart [] = []
+with_zeros apart (span ∷ rest) =
+    span_or_zero apart span rest ∷ with_zeros (is_apart span) rest
+
 -- whether a span is a block comment that has no end
 abbrev pub is_endless : Span → Bool
 is_endless (Quoted bytes) = false
@@ -124,7 +154,9 @@ is_endless (Single b) = false
 
 -- the JSON text that a text stands for; none if a block comment has no end
 abbrev pub plain : List ℕ → Option (List ℕ)
-plain text = if list_any is_endless (spans text) then None else Some (json_bytes (spans text))
+plain text =
+    if list_any is_endless (spans text) then None
+    else Some (json_bytes (with_zeros true (spans text)))
 
 -- what follows the white space that a text begins with
 abbrev pub behind_spaces : List ℕ → List ℕ

@@ -1,20 +1,27 @@
 -- A pool of a subnet in a configuration of Kea's.
-use Rattle.std.specs.Prelude.{false, List, codes, Option, Some}
+use Rattle.std.specs.Prelude.{◌-◌, nat_lt, false, List, codes, Option, Some}
 use Rattle.serde_json.specs.Data.{Data}
 use Rattle.serde_json.specs.Find.{get}
 use Rattle.kd_config.specs.declared.pool.Pool.{Pool}
-use Rattle.kd_json.specs.Pool.{pool_range}
-use Rattle.kd_json.specs.Steps.{must}
+use Rattle.kd_config.specs.declared.range.Range.{Range}
+use Rattle.kd_json.specs.Pool.{pool_addresses}
+use Rattle.kd_json.specs.Steps.{must, only_if}
 use Rattle.kd_kea.specs.Keys.{keys_are_read}
 use Rattle.kd_kea.specs.Options.{kea_options}
 use Rattle.kd_kea.specs.Tables.{pool_keys}
 use Rattle.kd_kea.specs.declared.objects.definition.Definition.{Definition}
 use Rattle.kd_wire.specs.Steps.{◌>>=◌}
 
+-- the addresses of a pool: at most 4,194,304
+unfoldable pub kea_range : Data → Option Range
+kea_range d = do
+  range ← pool_addresses d
+  only_if (nat_lt (range.last - range.first) 4194304) range
+
 -- the pool that a value describes, with these definitions of options
 unfoldable pub kea_pool : List Definition → Data → Option Pool
 kea_pool known d = do
   _ ← must (keys_are_read pool_keys d)
-  range ← get (codes "pool") d >>= pool_range
+  range ← get (codes "pool") d >>= kea_range
   options ← kea_options false known (get (codes "option-data") d)
   Some (record { range = range; options = options })

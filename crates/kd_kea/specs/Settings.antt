@@ -13,7 +13,7 @@ use Rattle.kd_kea.specs.Keys.{Plain, flag, keys_are_read, no_list, word}
 use Rattle.kd_kea.specs.Options.{kea_options, sent_to_all, server_address}
 use Rattle.kd_kea.specs.Subnet.{kea_subnet}
 use Rattle.kd_kea.specs.Tables.{root_keys, server_keys}
-use Rattle.kd_kea.specs.Times.{has_usual_shares, kea_times}
+use Rattle.kd_kea.specs.Times.{has_usual_shares, kea_times, shares_given}
 use Rattle.kd_kea.specs.Values.{flag_given, has_plain, is_plain_if_given}
 use Rattle.kd_kea.specs.declared.objects.definition.Definition.{Definition}
 use Rattle.kd_kea.specs.declared.objects.subnet.Above.{Above}
@@ -62,7 +62,7 @@ kea_dhcp4 server d = do
   known ← kea_known (get (codes "option-def") d)
   options ← kea_options true known (get (codes "option-data") d)
   address ← server_address options server
-  kea_settings_with known options (record { server = address; times = times; calculated = calculated; outside = outside }) d
+  kea_settings_with known options (record { server = address; times = times; calculated = calculated; shares = shares_given d; outside = outside }) d
 
 -- the settings that the value of a whole text describes
 unfoldable pub kea_root : Option ℕ → Data → Option Settings

@@ -15,6 +15,7 @@ use Rattle.kd_json.specs.Subnet.{subnet_prefix}
 use Rattle.kd_json.specs.Values.{number_if_given, text_if_given}
 use Rattle.kd_kea.specs.Keys.{is_plain, keys_are_read, word}
 use Rattle.kd_kea.specs.Options.{kea_options}
+use Rattle.kd_kea.specs.Parts.{parts_of_all}
 use Rattle.kd_kea.specs.Pool.{kea_pool}
 use Rattle.kd_kea.specs.Reservation.{kea_reservation}
 use Rattle.kd_kea.specs.Tables.{relay_keys, subnet_keys}
@@ -51,7 +52,7 @@ stand_beside outside pools reservations =
 -- the subnet of a prefix and a class with the lists in a value, by these definitions of options
 unfoldable pub kea_subnet_with : List Definition → Bool → Prefix → Option (List ℕ) → Data → Option Subnet
 kea_subnet_with known outside prefix class d = do
-  pools ← list_of 64 (kea_pool known) (get (codes "pools") d)
+  pools ← list_of 64 (kea_pool known) (get (codes "pools") d) >>= parts_of_all
   reservations ← list_of 4096 kea_reservation (get (codes "reservations") d)
   _ ← must (stand_beside outside pools reservations)
   options ← kea_options false known (get (codes "option-data") d)
@@ -61,7 +62,7 @@ kea_subnet_with known outside prefix class d = do
 unfoldable pub has_subnet_form : Above → Data → Option (Unit {0})
 has_subnet_form above d = do
   _ ← must (keys_are_read subnet_keys d)
-  _ ← repeats_times above.calculated above.times d
+  _ ← repeats_times above.calculated above.shares above.times d
   _ ← must (names_no_relay (get (codes "relay") d))
   _ ← number_if_given 1 4294967294 1 (get (codes "id") d)
   Some tt

@@ -1,13 +1,17 @@
 -- The lease and offer times in a configuration of Kea's.
-use Rattle.std.specs.Prelude.{ℕ, ◌+◌, ◌*◌, ◌/◌, ◌==◌, Bool, not, ◌&&◌, ◌||◌, nat_le, codes, Option, Some, if◌then◌else◌}
-use Rattle.serde_json.specs.Data.{Data}
-use Rattle.serde_json.specs.Find.{get}
+use Rattle.std.specs.Prelude.{ℕ, ◌*◌, ◌/◌, ◌==◌, Bool, not, ◌&&◌, ◌||◌, nat_le, nat_lt, pos, Float, codes, Option, Some, None, is_some, List, if◌then◌else◌}
+use Rattle.std.specs.Float.{binary64, float_round, float_to_unsigned}
+use Rattle.std.specs.Float.Ieee.{lt, mul, of_int}
+use Rattle.std.specs.Int.{w32}
+use Rattle.serde_json.specs.Data.{Data, number}
+use Rattle.serde_json.specs.Find.{get, to_float}
 use Rattle.kd_config.specs.Sound.{longest_lease}
 use Rattle.kd_config.specs.declared.times.Times.{Times}
 use Rattle.kd_json.specs.Steps.{must}
 use Rattle.kd_json.specs.Values.{number_if_given}
 use Rattle.kd_kea.specs.Keys.{flag, fraction, whole}
-use Rattle.kd_kea.specs.declared.objects.times.TheConstants.{HALF, SEVEN_EIGHTHS}
+use Rattle.kd_kea.specs.declared.objects.times.Shares.{Shares}
+use Rattle.kd_kea.specs.declared.objects.times.TheConstants.{HALF, NOTHING, SEVEN_EIGHTHS, WHOLE}
 use Rattle.kd_kea.specs.Values.{is_plain_if_given}
 use Rattle.kd_wire.specs.Steps.{◌>>=◌}
 
@@ -17,46 +21,103 @@ has_one_lifetime lifetime d =
     is_plain_if_given (whole lifetime) (get (codes "min-valid-lifetime") d)
     && is_plain_if_given (whole lifetime) (get (codes "max-valid-lifetime") d)
 
--- the shares of T1 and T2, if they are given, are a half and seven eighths, or they are not used
--- because the times are not calculated
+-- the share at a key: the usual one if there is none, and nothing if its value is no number
+abbrev pub share_given : Float → Option Data → Float
+share_given usual None = usual
+share_given usual (Some (number n)) = to_float n
+share_given usual (Some d) = NOTHING
+
+-- the shares of T1 and T2 in the lifetime that a value gives; a half and seven eighths are the usual ones
+abbrev pub shares_given : Data → Shares
+shares_given d =
+    record { renew = share_given HALF (get (codes "t1-percent") d); rebind = share_given SEVEN_EIGHTHS (get (codes "t2-percent") d) }
+
+-- T1 has a share, T2 a larger one, and neither is the whole lifetime
+abbrev pub are_shares : Shares → Bool
+are_shares shares =
+    lt NOTHING shares.renew && lt shares.renew shares.rebind && lt shares.rebind WHOLE
+
+-- the key of shares that Kea does not take: T1's, if it is given and T2's is right by itself
+abbrev pub share_key : Data → List ℕ
+share_key d =
+    if lt NOTHING (share_given SEVEN_EIGHTHS (get (codes "t2-percent") d))
+    && lt (share_given SEVEN_EIGHTHS (get (codes "t2-percent") d)) WHOLE
+    && is_some (get (codes "t1-percent") d) then codes "t1-percent" else codes "t2-percent"
+
+-- the shares of T1 and T2 are ones that Kea takes, or they are not used because the times are not
+-- calculated
 abbrev pub has_usual_shares : Bool → Data → Bool
-has_usual_shares calculated d =
-    not calculated
-    || (is_plain_if_given (fraction HALF) (get (codes "t1-percent") d)
-    && is_plain_if_given (fraction SEVEN_EIGHTHS) (get (codes "t2-percent") d))
+has_usual_shares calculated d = not calculated || are_shares (shares_given d)
 
--- T1 if it is not given: half of the lifetime, rounded if it is calculated
-abbrev pub usual_renew : Bool → ℕ → ℕ
-usual_renew calculated lifetime = (if calculated then (lifetime + 1) / 2 else lifetime / 2)
+-- a share of the lifetime in whole seconds, as Kea calculates it: the product of two floating-point
+-- numbers, rounded to the nearest whole number, and from a half upwards
+abbrev pub share_of : Float → ℕ → ℕ
+share_of share lifetime =
+    float_to_unsigned w32 (float_round binary64 (mul binary64 share (of_int binary64 (pos lifetime))))
 
--- T2 if it is not given: seven eighths of the lifetime, rounded if it is calculated
-abbrev pub usual_rebind : Bool → ℕ → ℕ
-usual_rebind calculated lifetime =
-    (if calculated then (lifetime * 7 + 4) / 8 else lifetime * 7 / 8)
+-- T1 if it is not given: its share of the lifetime if it is calculated, else half of it
+abbrev pub usual_renew : Bool → Shares → ℕ → ℕ
+usual_renew calculated shares lifetime =
+    (if calculated then share_of shares.renew lifetime else lifetime / 2)
+
+-- T2 if it is not given: its share of the lifetime if it is calculated, else seven eighths of it
+abbrev pub usual_rebind : Bool → Shares → ℕ → ℕ
+usual_rebind calculated shares lifetime =
+    (if calculated then share_of shares.rebind lifetime else lifetime * 7 / 8)
+
+-- a time is given or calculated
+abbrev pub is_asked_for : Bool → Option Data → Bool
+is_asked_for calculated value = calculated || is_some value
+
+-- a time is at most a bound; Kea does not send one that is asked for unless it is less
+abbrev pub fits_below : Bool → ℕ → ℕ → Bool
+fits_below asked time bound = (if asked then nat_lt time bound else nat_le time bound)
+
+-- T1 is at most T2, and T2 at most the lifetime; where they are asked for, they are times that Kea
+-- sends
+abbrev pub are_in_order : Bool → Bool → ℕ → ℕ → ℕ → Bool
+are_in_order renew_asked rebind_asked renew rebind lifetime =
+    (not renew_asked || nat_lt 0 renew)
+    && fits_below (renew_asked && rebind_asked) renew rebind
+    && fits_below rebind_asked rebind lifetime
+
+-- the key of times that are not in order: one that is given
+abbrev pub times_key : Data → List ℕ
+times_key d =
+    if is_some (get (codes "rebind-timer") d) then codes "rebind-timer"
+    else if is_some (get (codes "renew-timer") d) then codes "renew-timer"
+    else codes "calculate-tee-times"
 
 -- how long an offer is held: a minute if nothing or 0 is given
 abbrev pub offer_time : ℕ → ℕ
 offer_time given = (if given == 0 then 60 else given)
 
--- the lease and offer times of the whole server: T1 is at most T2, and T2 at most the lifetime; a timer
--- of 0 asks Kea not to send it, and is not allowed
+-- the lease and offer times of the whole server; a timer of 0 asks Kea not to send it, and is not
+-- allowed
 unfoldable pub kea_times : Bool → Data → Option Times
 kea_times calculated d = do
   lifetime ← number_if_given 1 longest_lease 7200 (get (codes "valid-lifetime") d)
   _ ← must (has_one_lifetime lifetime d)
-  renew ← number_if_given 1 longest_lease (usual_renew calculated lifetime) (get (codes "renew-timer") d)
-  rebind ← number_if_given 1 longest_lease (usual_rebind calculated lifetime) (get (codes "rebind-timer") d)
-  _ ← must (nat_le renew rebind && nat_le rebind lifetime)
+  renew ← number_if_given 1 longest_lease (usual_renew calculated (shares_given d) lifetime) (get (codes "renew-timer") d)
+  rebind ← number_if_given 1 longest_lease (usual_rebind calculated (shares_given d) lifetime) (get (codes "rebind-timer") d)
+  _ ← must (are_in_order (is_asked_for calculated (get (codes "renew-timer") d)) (is_asked_for calculated (get (codes "rebind-timer") d)) renew rebind lifetime)
   offer ← number_if_given 0 86400 0 (get (codes "offer-lifetime") d)
   decline_hold ← number_if_given 1 31536000 86400 (get (codes "decline-probation-period") d)
   Some (record { lifetime = lifetime; renew = renew; rebind = rebind; offer_hold = offer_time offer; decline_hold = decline_hold })
 
+-- the shares of a subnet, if they are given, are those of the whole server, or they are not used
+abbrev pub repeats_shares : Bool → Shares → Data → Bool
+repeats_shares calculated shares d =
+    not calculated
+    || (is_plain_if_given (fraction shares.renew) (get (codes "t1-percent") d)
+    && is_plain_if_given (fraction shares.rebind) (get (codes "t2-percent") d))
+
 -- the times of a subnet, if they are given, are those of the whole server
-unfoldable pub repeats_times : Bool → Times → Data → Option (Unit {0})
-repeats_times calculated times d = do
+unfoldable pub repeats_times : Bool → Shares → Times → Data → Option (Unit {0})
+repeats_times calculated shares times d = do
   _ ← must (is_plain_if_given (whole times.lifetime) (get (codes "valid-lifetime") d))
   _ ← must (has_one_lifetime times.lifetime d)
   _ ← must (is_plain_if_given (whole times.renew) (get (codes "renew-timer") d))
   _ ← must (is_plain_if_given (whole times.rebind) (get (codes "rebind-timer") d))
   _ ← must (is_plain_if_given (flag calculated) (get (codes "calculate-tee-times") d))
-  must (has_usual_shares calculated d)
+  must (repeats_shares calculated shares d)

@@ -6,7 +6,7 @@
 //! `specs/Tables.antt` lists the keys of each kind of object, and whether a key is read, skipped,
 //! or allowed with its usual values alone. Nothing that a client notices is skipped. The rules over
 //! the whole, the classes and the faults are those of kd_json. `notes_of` lists the keys that are
-//! skipped and those that are refused (`specs/Notes.antt`).
+//! skipped, those that are refused, and the values that are wrong (`specs/Notes.antt`).
 #![tactic(auto)]
 
 mod checking;

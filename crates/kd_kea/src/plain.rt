@@ -8,15 +8,18 @@ pub mod laws;
 mod output;
 mod space;
 mod span;
+mod zero;
 
 use crate::plain::output::Output;
 use crate::plain::span::{TextSpan, cut_span};
+use crate::plain::zero::{is_apart_from, json_byte};
 use std::alloc::{AllocError, Global};
 
-/// Returns the JSON text that a text stands for, with each other byte in its place. Kea allows two
-/// things that JSON does not: comments (from `#` or `//` to the end of the line, and `/* .. */`),
-/// and a comma before a closing bracket. Both become spaces; line feeds stay. Strings stay as they
-/// are. Returns `None` if a `/*` has no `*/`.
+/// Returns the JSON text that a text stands for, with each other byte in its place. Kea allows three
+/// things that JSON does not: comments (from `#` or `//` to the end of the line, and `/* .. */`), a
+/// comma before a closing bracket, and a number that begins with its point. Comments and such commas
+/// become spaces; line feeds stay. White space before such a point becomes a zero, if there is some
+/// in its line. Strings stay as they are. Returns `None` if a `/*` has no `*/`.
 ///
 /// # Errors
 ///
@@ -26,13 +29,15 @@ pub fn plain_text(alloc: Global, text: &[u8]) -> Result<Option<Vec<u8>>, AllocEr
 {
     let mut output = Output::new(alloc, text.len())?;
     let mut rest = text;
+    let mut apart = true;
     while let Some((span, behind)) = cut_span(rest) {
         match span {
             TextSpan::Quoted(string) => output.push_string(string)?,
             TextSpan::Comment(comment) => output.push_comment(comment)?,
             TextSpan::Endless(_) => return Ok(None),
-            TextSpan::Single(byte) => output.push_byte(byte)?,
+            TextSpan::Single(byte) => output.push_byte(json_byte(apart, byte, behind))?,
         }
+        apart = is_apart_from(span);
         rest = behind;
     }
     Ok(Some(output.into_bytes()))

@@ -1,11 +1,14 @@
 -- What a check of a start prints about a configuration: how much it contains, and a line for each
 -- part that is probably a mistake, though a server starts with it.
-use Rattle.std.specs.Prelude.{◌≡◌, ℕ, ◌+◌, ◌-◌, ◌^◌, ◌||◌, Bool, true, false, not, min, is_some, nat_le, if◌then◌else◌}
-use Rattle.std.specs.Prelude.{List, [], ◌++◌, Option, None, Some, Result, Ok, Err, codes, decimal, length}
+use Rattle.std.specs.Prelude.{◌≡◌, ℕ, ◌+◌, ◌-◌, ◌^◌, ◌||◌, Bool, true, false, not, min, is_some, nat_le, nat_lt, if◌then◌else◌, MatchBool}
+use Rattle.std.specs.Prelude.{List, [], ◌++◌, Option, None, Some, Result, Ok, Err, codes, decimal, length, option_map, string_bytes}
 use Rattle.std.specs.List.{find, flat_map, list_any}
 use Rattle.std.specs.Str.{bytes_eq}
 use Rattle.kd_classes.specs.Order.{built_in}
 use Rattle.kd_classes.specs.declared.definition.ClassDef.{ClassDef}
+use Rattle.kd_check.specs.declared.findings.SocketTrouble.{SocketTrouble}
+use Rattle.kd_check.specs.declared.findings.SocketTrouble.TheVariants as sockets
+use Rattle.kd_commands.specs.declared.orders.Files.{Files}
 use Rattle.kd_commands.specs.declared.orders.Form.{Form}
 use Rattle.kd_commands.specs.declared.orders.Form.TheVariants as forms
 use Rattle.kd_config.specs.Address.{prefix_size}
@@ -17,6 +20,7 @@ use Rattle.kd_config.specs.declared.subnet.Subnet.{Subnet}
 use Rattle.kd_start.specs.declared.start.StartFault.{StartFault}
 use Rattle.kd_names.specs.Values.{sign_text}
 use Rattle.kd_program.specs.Banner.{subnet_addresses}
+use Rattle.kd_program.specs.declared.host.Host.{Ghosts as Hosts}
 use Rattle.kd_text.specs.Text.{address_text, prefix_text}
 use Rattle.kd_token.specs.File.{Code}
 use Rattle.kd_token.specs.declared.token.Token.{Token}
@@ -144,18 +148,40 @@ abbrev pub size_line : List ℕ → Configuration → List ℕ
 size_line name config =
     size_text name (length config.subnets) (subnet_addresses config.subnets)
 
--- remarks on the keys of a file: there are none on one of our own form
-abbrev pub AreRemarks : Form → List ℕ → Type 0
-AreRemarks forms.Own remarks = remarks ≡ []
-AreRemarks (forms.Kea server) remarks = Unit {0}
+-- a trial of a socket found that this machine has no such address
+abbrev pub is_absent : Result Bool SocketTrouble → Bool
+is_absent (Ok reaches) = false
+is_absent (Err sockets.NoSuchAddress) = true
+is_absent (Err trouble) = false
 
--- a text is about the configuration in a file, if one is named: how much it contains and what is
--- probably a mistake, where this machine may have been found to have no such address as the
--- server's, and remarks on its keys; or some words for the fault
-abbrev pub IsAboutConfig : Form → Option (List ℕ) → Result Configuration StartFault → List ℕ → Type 0
-IsAboutConfig form file (Ok config) text =
-    (is_missing : Bool) × (remarks : List ℕ) × AreRemarks form remarks
-    × (text
-    ≡ (size_line (name_of file) config ++ advice_lines (name_of file) config is_missing)
-    ++ remarks)
-IsAboutConfig form file (Err fault) text = Unit {0}
+-- over a host
+module _ {H N U L R : Type 0} (h : Hosts H N U L R) where
+  -- this machine was found to have no such address as the server's, or not; that is tried if a host
+  -- can have the address
+  abbrev pub IsFoundMissing : H → ℕ → Bool → Type 0
+  IsFoundMissing host server is_missing =
+      MatchBool (nat_lt server 0xe0000000)
+      ((answer : Result Bool SocketTrouble) × h.reaches host server 0 answer
+      × (is_missing ≡ is_absent answer))
+      (is_missing ≡ false)
+
+  -- a text is about the content of the configuration in a file, if one is named: how much there is,
+  -- and what is probably a mistake
+  abbrev pub IsAboutContent : H → Option (List ℕ) → Configuration → List ℕ → Type 0
+  IsAboutContent host file config text =
+      (is_missing : Bool) × IsFoundMissing host config.server is_missing
+      × (text ≡ size_line (name_of file) config ++ advice_lines (name_of file) config is_missing)
+
+  -- what the host remarks on the keys of the file of a configuration: nothing if it has our own form
+  abbrev pub AreRemarks : H → Files → Form → List ℕ → Type 0
+  AreRemarks host files forms.Own remarks = remarks ≡ []
+  AreRemarks host files (forms.Kea server) remarks = h.remarked host files remarks
+
+  -- a text is about the configuration of these files: its content, and remarks on its keys; or the
+  -- host's words for the fault
+  abbrev pub IsAboutConfig : H → Files → Result Configuration StartFault → List ℕ → Type 0
+  IsAboutConfig host files (Ok config) text =
+      (content : List ℕ) × IsAboutContent host (option_map string_bytes files.config) config content
+      × (remarks : List ℕ) × AreRemarks host files files.form remarks
+      × (text ≡ content ++ remarks)
+  IsAboutConfig host files (Err fault) text = h.explains host files fault text

@@ -112,8 +112,7 @@ module _ {H N U L R : Type 0} (h : Hosts H N U L R) where
     pub socket : Result Bool SocketTrouble
     pub socket_found : h.reaches after.host place.bind place.port socket
     pub shown : ((report : List ℕ)
-        × IsCheckReport files.form (option_map string_bytes files.config) config
-        (option_map string_bytes files.store) store place socket report
+        × IsCheckReport h after.host files config store place socket report
         × ShowsOrBreaks report
         (check_status (config_finding config ∷ finding_number store ∷ socket_finding socket ∷ []))
         status before.streams.output after.streams.output before.streams.faults

@@ -1,6 +1,6 @@
 -- What a check of a start prints.
 use Rattle.std.specs.Prelude.{◌≡◌, ℕ, ◌-◌, ◌==◌, ◌&&◌, ◌||◌, Bool, true, false, if◌then◌else◌, nat_le, nat_lt}
-use Rattle.std.specs.Prelude.{IsTrue, List, [], ◌∷◌, ◌++◌, Option, None, Some, Result, Ok, Err, codes, decimal}
+use Rattle.std.specs.Prelude.{IsTrue, List, [], ◌∷◌, ◌++◌, Option, None, Some, Result, Ok, Err, codes, decimal, option_map, string_bytes}
 use Rattle.std.specs.List.{flat_map, list_all}
 use Rattle.kd_program.specs.Advice.{IsAboutConfig}
 use Rattle.kd_config.specs.Configuration.{Configuration}
@@ -13,11 +13,12 @@ use Rattle.kd_io.specs.declared.look.LookFault.TheVariants as looks
 use Rattle.kd_keeps.specs.declared.fault.StoreFault.TheVariants as stores
 use Rattle.kd_names.specs.Values.{sign_text}
 use Rattle.kd_program.specs.Banner.{place_text}
-use Rattle.kd_commands.specs.declared.orders.Form.{Form}
+use Rattle.kd_commands.specs.declared.orders.Files.{Files}
 use Rattle.kd_commands.specs.declared.orders.Place.{Place}
 use Rattle.kd_program.specs.declared.checking.SeenRows.{SeenRows}
 use Rattle.kd_program.specs.declared.checking.StoreFinding.{StoreFinding}
 use Rattle.kd_program.specs.declared.checking.StoreFinding.TheVariants as findings
+use Rattle.kd_program.specs.declared.host.Host.{Ghosts as Hosts}
 
 -- a byte that a terminal shows: a line feed, or a printable sign of ASCII
 abbrev pub is_shown : ℕ → Bool
@@ -114,14 +115,25 @@ socket_text (Err trouble) = socket_trouble_words trouble ++ codes "\n"
 unfoldable pub socket_lines : Place → Result Bool SocketTrouble → List ℕ
 socket_lines place answer = place_text place.bind place.port ++ codes ": " ++ socket_text answer
 
--- a report: lines about the configuration in a file of a form, if one is named, those about the store at a
--- path, if there is a path, and those about the socket, as a terminal may show them
-pub record IsCheckReport (form : Form) (file : Option (List ℕ)) (config : Result Configuration StartFault)
-    (path : Option (List ℕ)) (store : StoreFinding) (place : Place)
-    (socket : Result Bool SocketTrouble) (report : List ℕ) : Type 0 where
-  pub about_config : List ℕ
-  pub configured : IsAboutConfig form file config about_config
-  pub left_out : Option ℕ
-  pub shown : report
-      ≡ shown_text (about_config ++ store_lines path store left_out ++ socket_lines place socket)
-  pub plain : IsPlain report
+-- over a host
+module _ {H N U L R : Type 0} (h : Hosts H N U L R) where
+  -- how many bytes of the log of the store at a path the host leaves out, if any, and if there is a
+  -- path
+  abbrev pub IsLeftOut : H → Option (List ℕ) → Option ℕ → Type 0
+  IsLeftOut host None count = count ≡ None
+  IsLeftOut host (Some path) count = h.leaves_out host path count
+
+  -- a report: what is said of the configuration of these files, the lines about the store, if there
+  -- is a path, and those about the socket, as a terminal may show them
+  pub record IsCheckReport (host : H) (files : Files) (config : Result Configuration StartFault)
+      (store : StoreFinding) (place : Place) (socket : Result Bool SocketTrouble)
+      (report : List ℕ) : Type 0 where
+    pub about_config : List ℕ
+    pub configured : IsAboutConfig h host files config about_config
+    pub left_out : Option ℕ
+    pub is_left_out : IsLeftOut host (option_map string_bytes files.store) left_out
+    pub shown : report
+        ≡ shown_text (about_config
+        ++ store_lines (option_map string_bytes files.store) store left_out
+        ++ socket_lines place socket)
+    pub plain : IsPlain report

@@ -1,7 +1,8 @@
-ghost use Rattle.std.specs.Prelude.{◌≡◌, ◌++◌, ◌||◌, Bool, OnOk, is_some, option_copied, option_map, string_bytes};
+ghost use Rattle.std.specs.Prelude.{◌≡◌, ◌++◌, ◌||◌, Bool, OnOk, Result, is_some, option_copied, option_map, string_bytes};
 ghost use Rattle.std.specs.List.{flat_map, list_any};
 ghost use Rattle.kd_classes.specs.Order.{built_in};
-ghost use Rattle.kd_program.specs.Advice.{advice_lines, asks_relay, class_trouble, def_asks, defined, last_of, network_lines, pool_advice, pool_note};
+ghost use Rattle.kd_check.specs.declared.findings.SocketTrouble.{SocketTrouble};
+ghost use Rattle.kd_program.specs.Advice.{IsFoundMissing, advice_lines, asks_relay, class_trouble, def_asks, defined, is_absent, last_of, network_lines, pool_advice, pool_note};
 ghost use Rattle.kd_program.specs.Advice.{pool_text, required_trouble, server_advice, server_text, subnet_advice, subnet_note, subnet_text, test_asks};
 
 use crate::host::Host;
@@ -24,19 +25,43 @@ pub(crate) fn put_advice<H: Host>(
     name: &str,
     config: &Config,
 ) -> Result<(), AllocError>
-    ensures { OnOk result ((is_missing : Bool) × (string_bytes text.new
+    ensures { OnOk result ((is_missing : Bool)
+        × IsFoundMissing H.Host host.now config.now.server is_missing
+        × (string_bytes text.new
         ≡ string_bytes text.old ++ advice_lines name.now config.now is_missing)) }
 {
     let server = config.server();
-    let is_missing = server < FIRST_OF_NO_HOST && misses(host, server);
+    let is_missing = misses(host, server);
     put_server(text, name, server, is_missing)?;
     put_subnets(text, name, config)?;
     Ok(())
 }
 
+// Reports whether the host has no such address, if a host can have it.
+fn misses<H: Host>(host: &H, address: u32) -> bool
+    ensures { IsFoundMissing H.Host host.now address result }
+{
+    if address < FIRST_OF_NO_HOST {
+        lacks_address(host, address)
+    } else {
+        false
+    }
+}
+
 // Asks the host whether it has no such address.
-fn misses<H: Host>(host: &H, address: u32) -> bool {
-    match host.try_socket(address, 0) {
+fn lacks_address<H: Host>(host: &H, address: u32) -> bool
+    ensures { (answer : Result Bool SocketTrouble) × H.reaches host.now address 0 answer
+        × (result ≡ is_absent answer) }
+{
+    let answer = host.try_socket(address, 0);
+    means_absent(answer)
+}
+
+// Reports whether a trial of a socket found that this machine has no such address.
+fn means_absent(answer: Result<bool, SocketTrouble>) -> bool
+    ensures { result ≡ is_absent answer }
+{
+    match answer {
         Err(SocketTrouble::NoSuchAddress) => true,
         _ => false,
     }

@@ -10,7 +10,7 @@ use std::alloc::AllocError;
 
 /// What a command finds outside its arguments and the standard streams.
 pub trait Host {
-    ghost use Rattle.std.specs.Prelude.{◌≡◌, ℕ, Bool, Err, IfOk, List, MatchResult, Ok, Option, Result, false, is_some};
+    ghost use Rattle.std.specs.Prelude.{◌≡◌, ℕ, Bool, Err, IfOk, List, MatchResult, Ok, Option, Result, false, is_some, string_bytes};
     ghost use Rattle.std.specs.List.{All};
     ghost use Rattle.kd_check.specs.declared.findings.SocketTrouble.{SocketTrouble};
     ghost use Rattle.kd_check.specs.declared.findings.StoreTrouble.{StoreTrouble};
@@ -70,6 +70,16 @@ pub trait Host {
 
     /// The time of the clock.
     ghost tells_time: { Self → ℕ → Type 0 };
+
+    /// Why these files give no configuration, in words.
+    ghost explains: { Self → Files → StartFault → List ℕ → Type 0 };
+
+    /// Remarks on the keys of the file of a configuration that has no fault.
+    ghost remarked: { Self → Files → List ℕ → Type 0 };
+
+    /// How many bytes of the log of the database at a path a start leaves out because a frame there
+    /// was damaged, if any.
+    ghost leaves_out: { Self → List ℕ → Option ℕ → Type 0 };
 
     /// The line that says which program this is.
     ghost version: { Self → List ℕ };
@@ -152,7 +162,9 @@ pub trait Host {
     /// # Errors
     ///
     /// Out of memory.
-    fn start_words(&self, files: &Files, fault: &StartFault) -> Result<String, AllocError>;
+    fn start_words(&self, files: &Files, fault: &StartFault) -> Result<String, AllocError>
+        ensures { IfOk result
+            (λ words. explains self.now files.now fault.now (string_bytes words)) };
 
     /// Returns remarks on the keys of the file of a configuration that has no fault: a line for each
     /// key that is skipped because no client notices it, with its line feed.
@@ -160,7 +172,8 @@ pub trait Host {
     /// # Errors
     ///
     /// Out of memory.
-    fn remarks(&self, files: &Files) -> Result<String, AllocError>;
+    fn remarks(&self, files: &Files) -> Result<String, AllocError>
+        ensures { IfOk result (λ words. remarked self.now files.now (string_bytes words)) };
 
     /// Reports whether the database at a path exists. Nothing is created.
     ///
@@ -172,7 +185,8 @@ pub trait Host {
 
     /// Returns how many bytes of the log of the database at a path a start leaves out because a
     /// frame there was damaged; `None` if it leaves out none, or if that cannot be determined.
-    fn left_out(&self, path: &str) -> Option<usize>;
+    fn left_out(&self, path: &str) -> Option<usize>
+        ensures { leaves_out self.now path.now result };
 
     /// Reports whether a socket at an address, a number in host order, and a port could send to all
     /// hosts of its link. Nothing is sent.

@@ -1,6 +1,6 @@
 ghost use Rattle.std.specs.Prelude.{◌≡◌, ◌++◌, ℕ, Bool, IfOk, List, Ok, OnOk, codes, decimal, option_map, string_bytes};
-ghost use Rattle.kd_program.specs.Advice.{AreRemarks, IsAboutConfig, advice_lines, name_of, size_line, size_text};
-ghost use Rattle.kd_program.specs.Report.{IsPlain, IsCheckReport, ahead_text, behind_text, damaged_line, finding_text, log_line, seen_rows_text, seen_text, plain_byte, shown_text, socket_lines, socket_text, store_line, store_lines, unread_reason, unused_line};
+ghost use Rattle.kd_program.specs.Advice.{AreRemarks, IsAboutConfig, IsAboutContent, name_of, size_line, size_text};
+ghost use Rattle.kd_program.specs.Report.{IsPlain, IsCheckReport, IsLeftOut, ahead_text, behind_text, damaged_line, finding_text, log_line, seen_rows_text, seen_text, plain_byte, shown_text, socket_lines, socket_text, store_line, store_lines, unread_reason, unused_line};
 
 use crate::advice::put_advice;
 use crate::banner::{pool_addresses, put_place};
@@ -23,9 +23,8 @@ pub(crate) fn report_of<H: Host>(
     files: &Files,
     found: &Found<'_>,
 ) -> Result<String, AllocError>
-    ensures { IfOk result (λ text. IsCheckReport files.now.form (option_map string_bytes files.now.config)
-        found.now.config.now (option_map string_bytes files.now.store) found.now.store.now
-        found.now.place found.now.socket (string_bytes text)) }
+    ensures { IfOk result (λ text. IsCheckReport H.Host host.now files.now found.now.config.now
+        found.now.store.now found.now.place found.now.socket (string_bytes text)) }
 {
     let mut text = String::new(alloc);
     put_config(alloc, &mut text, host, files, found.config)?;
@@ -36,7 +35,9 @@ pub(crate) fn report_of<H: Host>(
 }
 
 // Asks the host how many bytes of the store's log a start leaves out, if there is a path.
-fn left_out_of<H: Host>(host: &H, files: &Files) -> Option<usize> {
+fn left_out_of<H: Host>(host: &H, files: &Files) -> Option<usize>
+    ensures { IsLeftOut H.Host host.now (option_map string_bytes files.now.store) result }
+{
     match &files.store {
         Some(path) => host.left_out(path.as_str()),
         None => None,
@@ -79,7 +80,7 @@ fn put_config<H: Host>(
     config: &Result<Config, StartFault>,
 ) -> Result<(), AllocError>
     ensures { OnOk result ((about : List ℕ)
-        × IsAboutConfig files.now.form (option_map string_bytes files.now.config) config.now about
+        × IsAboutConfig H.Host host.now files.now config.now about
         × (string_bytes text.new ≡ string_bytes text.old ++ about)) }
 {
     match config {
@@ -97,8 +98,7 @@ fn put_configured<H: Host>(
     config: &Config,
 ) -> Result<(), AllocError>
     ensures { OnOk result ((about : List ℕ)
-        × IsAboutConfig files.now.form (option_map string_bytes files.now.config) (Ok config.now)
-        about
+        × IsAboutConfig H.Host host.now files.now (Ok config.now) about
         × (string_bytes text.new ≡ string_bytes text.old ++ about)) }
 {
     put_content(alloc, text, host, &files.config, config)?;
@@ -113,9 +113,9 @@ fn put_content<H: Host>(
     file: &Option<String>,
     config: &Config,
 ) -> Result<(), AllocError>
-    ensures { OnOk result ((is_missing : Bool) × (string_bytes text.new ≡ string_bytes text.old
-        ++ (size_line (name_of (option_map string_bytes file.now)) config.now
-        ++ advice_lines (name_of (option_map string_bytes file.now)) config.now is_missing))) }
+    ensures { OnOk result ((content : List ℕ)
+        × IsAboutContent H.Host host.now (option_map string_bytes file.now) config.now content
+        × (string_bytes text.new ≡ string_bytes text.old ++ content)) }
 {
     let name = name_in(alloc, file)?;
     put_size(text, name.as_str(), config)?;
@@ -125,7 +125,8 @@ fn put_content<H: Host>(
 
 // Prints what the host remarks on the keys of a file, unless it has our own form.
 fn put_remarks<H: Host>(text: &mut String, host: &H, files: &Files) -> Result<(), AllocError>
-    ensures { OnOk result ((remarks : List ℕ) × AreRemarks files.now.form remarks
+    ensures { OnOk result ((remarks : List ℕ)
+        × AreRemarks H.Host host.now files.now files.now.form remarks
         × (string_bytes text.new ≡ string_bytes text.old ++ remarks)) }
 {
     match files.form {
@@ -136,7 +137,7 @@ fn put_remarks<H: Host>(text: &mut String, host: &H, files: &Files) -> Result<()
 
 // Prints what the host remarks on the keys of a file.
 fn put_kea_remarks<H: Host>(text: &mut String, host: &H, files: &Files) -> Result<(), AllocError>
-    ensures { OnOk result ((remarks : List ℕ)
+    ensures { OnOk result ((remarks : List ℕ) × H.remarked host.now files.now remarks
         × (string_bytes text.new ≡ string_bytes text.old ++ remarks)) }
 {
     let remarks = host.remarks(files)?;
@@ -186,7 +187,7 @@ fn put_fault<H: Host>(
     files: &Files,
     fault: &StartFault,
 ) -> Result<(), AllocError>
-    ensures { OnOk result ((words : List ℕ)
+    ensures { OnOk result ((words : List ℕ) × H.explains host.now files.now fault.now words
         × (string_bytes text.new ≡ string_bytes text.old ++ words)) }
 {
     let words = host.start_words(files, fault)?;

@@ -1,1 +1,4 @@
+mod Keys
+mod Said
+mod Values
 mod Starting

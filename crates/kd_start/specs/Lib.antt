@@ -1,2 +1,5 @@
 pub mod Faults
+pub mod KeaWords
 pub mod Start
+pub mod Trials
+pub mod Words

@@ -67,6 +67,31 @@ fn last_commas_are_spaces(rt: HostRuntime) -> Result<(), Fail> {
 }
 
 #[test]
+fn points_that_begin_numbers_get_a_zero(rt: HostRuntime) -> Result<(), Fail> {
+    let rows: [(&[u8], &[u8]); 15] = [
+        (b"{\"a\": .5}", b"{\"a\":0.5}"),
+        (b"[.5]", b"[.5]"),
+        (b"[1, .5, .25,]", b"[1,0.5,0.25 ]"),
+        (b":\t.5", b":0.5"),
+        (b":\r.5", b":0.5"),
+        (b":\n.5", b":\n.5"),
+        (b":\n .5", b":\n0.5"),
+        (b"1 .5", b"1 .5"),
+        (b"1  .5", b"1 0.5"),
+        (b"- .5", b"- .5"),
+        (b"/* */ .5", b"     0.5"),
+        (b"/* */.5", b"     .5"),
+        (b"\" .5\"", b"\" .5\""),
+        (b"// .5", b"     "),
+        (b" .", b"0."),
+    ];
+    for (text, plain) in &rows {
+        assert!(rt; has_plain(rt.alloc(), text, plain)?, "{text:?}");
+    }
+    Ok(())
+}
+
+#[test]
 fn block_comments_must_end(rt: HostRuntime) -> Result<(), Fail> {
     let rows: [&[u8]; 4] = [b"/*", b"/*/", b"{} /* a *", b"/**/ /* // */\n/* \"*\""];
     for text in &rows {

@@ -2,6 +2,7 @@ ghost use Rattle.std.specs.Prelude.{◌≡◌, ◌∷◌, ◌++◌, IfOk, OnOk, 
 ghost use Rattle.std.specs.List.{flat_map};
 ghost use Rattle.kd_json.specs.FirstFault.{path_below};
 ghost use Rattle.kd_names.specs.Values.{sign_text};
+ghost use Rattle.kd_kea.specs.Notes.{have_refused, is_refusal, note_of};
 
 use crate::notes::{Note, NoteKind};
 use kd_names::put_signs;
@@ -25,7 +26,7 @@ impl Model for NoteList {
 }
 
 impl NoteList {
-    ghost use Rattle.kd_kea.specs.Notes.{note_of};
+    ghost use Rattle.kd_kea.specs.Notes.{have_refused, note_of};
 
     // Makes a list with no notes.
     pub(super) fn new(alloc: Global) -> NoteList
@@ -37,6 +38,11 @@ impl NoteList {
         }
     }
 
+    // Returns the allocator of the list's memory.
+    pub(super) fn allocator(&self) -> Global {
+        self.alloc
+    }
+
     // Appends a note on a key of the object at a path, with the key as a terminal may show it.
     pub(super) fn push(&mut self, path: &str, key: &str, kind: NoteKind) -> Result<(), AllocError>
         ensures { OnOk result (self.new
@@ -45,6 +51,30 @@ impl NoteList {
         let path = shown_path(self.alloc, path, key)?;
         self.content.push(Note { path, kind })?;
         Ok(())
+    }
+
+    // Appends a note at a path.
+    pub(super) fn push_path(&mut self, path: &str, kind: NoteKind) -> Result<(), AllocError>
+        ensures { OnOk result (self.new ≡ self.old ++ (path.now, kind) ∷ []) }
+    {
+        let path = String::from_str(self.alloc, path)?;
+        self.content.push(Note { path, kind })?;
+        Ok(())
+    }
+
+    // Appends the notes of a list.
+    #[tactic(auto, using(crate::proofs::Noted::notes_joined))]
+    pub(super) fn append(&mut self, mut notes: NoteList) -> Result<(), AllocError>
+        ensures { OnOk result (self.new ≡ self.old ++ notes) }
+    {
+        self.content.append(&mut notes.content)
+    }
+
+    // Reports whether one of the notes refuses something.
+    pub(super) fn refuses(&self) -> bool
+        ensures { result ≡ have_refused self.now }
+    {
+        is_refusing(self.content.as_slice())
     }
 
     // Returns the path of a key of the object at a path.
@@ -79,4 +109,27 @@ fn shown_path(alloc: Global, path: &str, key: &str) -> Result<String, AllocError
     below.push_str("/")?;
     put_signs(alloc, &mut below, key.as_bytes())?;
     Ok(below)
+}
+
+// Reports whether one of these notes refuses something.
+fn is_refusing(notes: &[Note]) -> bool
+    ensures { result ≡ have_refused (map note_of notes.now) }
+{
+    for note in notes {
+        if refuses(note.kind) {
+            return true;
+        }
+    }
+    false
+}
+
+// Reports whether a note of a kind refuses something.
+fn refuses(kind: NoteKind) -> bool
+    ensures { result ≡ is_refusal kind }
+{
+    match kind {
+        NoteKind::Skipped => false,
+        NoteKind::Unknown => true,
+        NoteKind::Wrong => true,
+    }
 }

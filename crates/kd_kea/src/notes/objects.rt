@@ -1,194 +1,428 @@
-ghost use Rattle.std.specs.Prelude.{◌≡◌, ◌++◌, OnOk};
+ghost use Rattle.std.specs.Prelude.{◌≡◌, ◌++◌, OnOk, false, true};
 ghost use Rattle.serde_json.specs.Find.{get};
-ghost use Rattle.serde_json.specs.View.{items_view, members_view, view};
+ghost use Rattle.serde_json.specs.View.{members_view, view};
 ghost use Rattle.kd_kea.specs.Keys.{key_use};
-ghost use Rattle.kd_kea.specs.Notes.{ObjectNotes, class_notes, definition_notes, item_notes, key_notes, kind_of_note, member_keys, note_below, notes_at, notes_of_each, option_notes, own_notes, pool_notes, root_notes, server_notes, subnet_notes};
-ghost use Rattle.kd_kea.specs.Tables.{key_table};
+ghost use Rattle.kd_kea.specs.Notes.{class_notes, data_notes, definition_note, definition_notes, host_notes, key_notes, kind_of_note, lists_by, member_keys, note_below, option_notes, own_notes, pool_notes, relay_notes, root_notes, server_lists, server_notes, subnet_lists, subnet_notes, subnet_own, subnet_values};
+ghost use Rattle.kd_kea.specs.Scope.{definitions_in};
+ghost use Rattle.kd_kea.specs.Tables.{key_table, subnet_keys};
 
 use crate::checking::{UPDATES, is_allowed};
 use crate::keys::{KeyRule, rule_in};
 use crate::notes::NoteKind;
+use crate::notes::around::{Around, BelowReader, is_beside, read_around};
 use crate::notes::list::NoteList;
+use crate::notes::values::{
+    note_flag, note_server_times, note_server_values, note_subnet_own, note_subnet_values,
+    note_text,
+};
+use crate::notes::walk::{
+    Listed, NotedObject, append_checked, note_each, note_failed, note_list, note_value,
+};
+use crate::notes::wholes::{DefinitionListReader, OptionListReader, RootReader, ServerReader};
+use crate::objects::class::{ClassReader, has_class_name};
+use crate::objects::definition::{Definition, DefinitionReader, definitions_alone, known_alone};
+use crate::objects::entry::{OptionReader, has_served_space};
+use crate::objects::pool::{PoolReader, has_range};
+use crate::objects::reservation::ReservationReader;
+use crate::objects::scope::{OptionScope, part_scope, scope_of_all};
 use crate::tables::ObjectKind;
 use serde_json::{Map, Value};
 use std::alloc::AllocError;
 
-// Notes the keys of the value of a whole text, and of the objects in it.
+// Notes the value of a whole text, for a server with this address if no option has another.
 #[tactic(auto, unfolding(crate::specs::Notes::root_notes))]
-pub(super) fn note_root(notes: &mut NoteList, root: &Value) -> Result<(), AllocError>
-    ensures { OnOk result (notes.new ≡ notes.old ++ root_notes (view root.now)) }
-{
-    note_keys(notes, root, "", ObjectKind::Whole)?;
-    note_value(notes, root, "", "Dhcp4", ServerObject)
-}
-
-// A kind of object whose keys are noted.
-trait NotedObject: Copy {
-    // What is noted of an object at a path.
-    ghost noted: { Self → ObjectNotes };
-
-    // Notes the keys of an object at a path, and of the objects in it.
-    fn note(self, notes: &mut NoteList, object: &Value, path: &str) -> Result<(), AllocError>
-        ensures { OnOk result (notes.new ≡ notes.old ++ noted self path.now (view object.now)) };
-}
-
-// Notes the value at a key of the object at a path.
-fn note_value<K: NotedObject>(
+pub(super) fn note_root(
     notes: &mut NoteList,
-    object: &Value,
-    path: &str,
-    key: &'static str,
-    kind: K,
+    root: &Value,
+    address: Option<u32>,
 ) -> Result<(), AllocError>
-    ensures { OnOk result (notes.new
-        ≡ notes.old ++ notes_at (K.noted kind) path.now key.now (view object.now)) }
+    ensures { OnOk result (notes.new ≡ notes.old ++ root_notes address (view root.now)) }
 {
-    let Some(value) = object.get(key) else {
-        return Ok(());
-    };
-    let path = notes.path_of_key(path, key)?;
-    kind.note(notes, value, &path)
-}
-
-// Notes each item of the list at a key of the object at a path.
-fn note_each<K: NotedObject>(
-    notes: &mut NoteList,
-    object: &Value,
-    path: &str,
-    key: &'static str,
-    kind: K,
-) -> Result<(), AllocError>
-    ensures { OnOk result (notes.new
-        ≡ notes.old ++ notes_of_each (K.noted kind) path.now key.now (view object.now)) }
-{
-    let Some(value) = object.get(key) else {
-        return Ok(());
-    };
-    let Some(list) = value.as_array() else {
-        return Ok(());
-    };
-    let path = notes.path_of_key(path, key)?;
-    note_items(notes, list.as_slice(), &path, kind)
-}
-
-// Notes the items of the list at a path.
-fn note_items<K: NotedObject>(
-    notes: &mut NoteList,
-    items: &[Value],
-    path: &str,
-    kind: K,
-) -> Result<(), AllocError>
-    ensures { OnOk result (notes.new
-        ≡ notes.old ++ item_notes (K.noted kind) path.now 0 (items_view items.now)) }
-{
-    for i in 0..items.len() {
-        let path = notes.path_of_item(path, i)?;
-        kind.note(notes, &items[i], &path)?;
+    if root.as_object().is_none() {
+        return notes.push_path("", NoteKind::Wrong);
     }
-    Ok(())
+    let mut inner = NoteList::new(notes.allocator());
+    note_keys(&mut inner, root, "", ObjectKind::Whole)?;
+    note_value(&mut inner, root, "", "Dhcp4", ServerObject { address })?;
+    append_checked(notes, inner, &RootReader { address }, root, "")
 }
 
-// An object of a kind that has no objects in it.
+// The value of `Dhcp4`, for a server with this address if no option has another.
 #[derive(Clone, Copy)]
-struct FlatObject {
-    kind: ObjectKind,
+struct ServerObject {
+    address: Option<u32>,
 }
-
-impl NotedObject for FlatObject {
-    ghost noted = { λ it. own_notes (key_table it.kind) };
-
-    fn note(self, notes: &mut NoteList, object: &Value, path: &str) -> Result<(), AllocError> {
-        note_keys(notes, object, path, self.kind)
-    }
-}
-
-// The value of `Dhcp4`.
-#[derive(Clone, Copy)]
-struct ServerObject;
 
 impl NotedObject for ServerObject {
-    ghost noted = { λ it. server_notes };
+    ghost noted = { λ it. server_notes it.address };
 
     #[tactic(auto, unfolding(crate::specs::Notes::server_notes))]
     fn note(self, notes: &mut NoteList, server: &Value, path: &str) -> Result<(), AllocError> {
-        note_keys(notes, server, path, ObjectKind::Server)?;
-        note_definitions(notes, server, path)?;
-        note_options(notes, server, path)?;
-        note_each(notes, server, path, "client-classes", ClassObject)?;
-        note_each(notes, server, path, "subnet4", SubnetObject)
+        if server.as_object().is_none() {
+            return notes.push_path(path, NoteKind::Wrong);
+        }
+        let mut inner = NoteList::new(notes.allocator());
+        note_keys(&mut inner, server, path, ObjectKind::Server)?;
+        note_server_values(&mut inner, server, path)?;
+        note_server_times(&mut inner, server, path)?;
+        note_flag(&mut inner, server, path, "reservations-out-of-pool")?;
+        note_server_lists(&mut inner, server, path, self.address)?;
+        let reader = ServerReader {
+            address: self.address,
+        };
+        append_checked(notes, inner, &reader, server, path)
     }
 }
 
-// A class.
-#[derive(Clone, Copy)]
-struct ClassObject;
+// Notes the lists in the value of `Dhcp4`.
+#[tactic(auto, unfolding(crate::specs::Notes::server_lists))]
+fn note_server_lists(
+    notes: &mut NoteList,
+    server: &Value,
+    path: &str,
+    address: Option<u32>,
+) -> Result<(), AllocError>
+    ensures { OnOk result
+        (notes.new ≡ notes.old ++ server_lists address path.now (view server.now)) }
+{
+    let around = read_around(notes.allocator(), server, address)?;
+    let known = known_alone(notes.allocator(), server)?;
+    note_lists_by(notes, server, path, around, known.as_slice())
+}
 
-impl NotedObject for ClassObject {
-    ghost noted = { λ it. class_notes };
+// Notes the lists in the value of `Dhcp4`, by what holds for the whole server and these definitions.
+#[tactic(auto, unfolding(crate::specs::Notes::lists_by))]
+fn note_lists_by(
+    notes: &mut NoteList,
+    server: &Value,
+    path: &str,
+    around: Around,
+    known: &[Definition],
+) -> Result<(), AllocError>
+    ensures { OnOk result
+        (notes.new ≡ notes.old ++ lists_by around known.now path.now (view server.now)) }
+{
+    let classes = Listed {
+        key: "client-classes",
+        most: 256,
+    };
+    let subnets = Listed {
+        key: "subnet4",
+        most: 256,
+    };
+    note_definitions(notes, server, path, false)?;
+    note_all_options(notes, server, path, known)?;
+    note_list(notes, server, path, classes, ClassObject { known })?;
+    note_list(notes, server, path, subnets, SubnetObject { around, known })
+}
+
+// A class, with the definitions of options of the whole server.
+#[derive(Clone, Copy)]
+struct ClassObject<'a> {
+    known: &'a [Definition],
+}
+
+impl<'a> NotedObject for ClassObject<'a> {
+    ghost noted = { λ it. class_notes it.known.now };
 
     #[tactic(auto, unfolding(crate::specs::Notes::class_notes))]
     fn note(self, notes: &mut NoteList, class: &Value, path: &str) -> Result<(), AllocError> {
-        note_keys(notes, class, path, ObjectKind::Class)?;
-        note_definitions(notes, class, path)?;
-        note_options(notes, class, path)
+        if class.as_object().is_none() {
+            return notes.push_path(path, NoteKind::Wrong);
+        }
+        let own = definitions_alone(notes.allocator(), class, true)?;
+        let scope = OptionScope {
+            for_all: false,
+            own: own.as_slice(),
+            shared: self.known,
+        };
+        let mut inner = NoteList::new(notes.allocator());
+        note_keys(&mut inner, class, path, ObjectKind::Class)?;
+        note_failed(
+            &mut inner,
+            has_class_name(class),
+            path,
+            "name",
+            NoteKind::Wrong,
+        )?;
+        note_text(&mut inner, class, path, "test")?;
+        note_definitions(&mut inner, class, path, true)?;
+        note_options(&mut inner, class, path, scope)?;
+        append_checked(
+            notes,
+            inner,
+            &ClassReader { known: self.known },
+            class,
+            path,
+        )
     }
 }
 
-// A subnet.
+// A subnet, below what holds for the whole server and with its definitions of options.
 #[derive(Clone, Copy)]
-struct SubnetObject;
+struct SubnetObject<'a> {
+    around: Around,
+    known: &'a [Definition],
+}
 
-impl NotedObject for SubnetObject {
-    ghost noted = { λ it. subnet_notes };
+impl<'a> NotedObject for SubnetObject<'a> {
+    ghost noted = { λ it. subnet_notes it.around it.known.now };
 
     #[tactic(auto, unfolding(crate::specs::Notes::subnet_notes))]
     fn note(self, notes: &mut NoteList, subnet: &Value, path: &str) -> Result<(), AllocError> {
-        let reservation = FlatObject {
-            kind: ObjectKind::Reservation,
+        if subnet.as_object().is_none() {
+            return notes.push_path(path, NoteKind::Wrong);
+        }
+        let reader = BelowReader {
+            around: self.around,
+            known: self.known,
         };
-        let relay = FlatObject {
-            kind: ObjectKind::Relay,
-        };
-        note_keys(notes, subnet, path, ObjectKind::Subnet)?;
-        note_options(notes, subnet, path)?;
-        note_each(notes, subnet, path, "pools", PoolObject)?;
-        note_each(notes, subnet, path, "reservations", reservation)?;
-        note_value(notes, subnet, path, "relay", relay)
+        let alloc = notes.allocator();
+        let beside = is_beside(alloc, subnet, self.around.outside, self.known)?;
+        let mut inner = NoteList::new(notes.allocator());
+        note_subnet_keys(&mut inner, subnet, path, self.around)?;
+        note_failed(
+            &mut inner,
+            beside,
+            path,
+            "reservations-out-of-pool",
+            NoteKind::Unknown,
+        )?;
+        note_subnet_lists(&mut inner, subnet, path, self.known)?;
+        append_checked(notes, inner, &reader, subnet, path)
     }
 }
 
-// A pool.
-#[derive(Clone, Copy)]
-struct PoolObject;
+// Notes the keys of a subnet, and its own values.
+fn note_subnet_keys(
+    notes: &mut NoteList,
+    subnet: &Value,
+    path: &str,
+    around: Around,
+) -> Result<(), AllocError>
+    ensures { OnOk result (notes.new ≡ notes.old ++ (own_notes subnet_keys path.now (view subnet.now)
+        ++ subnet_values around path.now (view subnet.now)
+        ++ subnet_own path.now (view subnet.now))) }
+{
+    note_keys(notes, subnet, path, ObjectKind::Subnet)?;
+    note_subnet_values(notes, subnet, path, around)?;
+    note_subnet_own(notes, subnet, path)
+}
 
-impl NotedObject for PoolObject {
-    ghost noted = { λ it. pool_notes };
+// Notes the lists and the relay of a subnet, by these definitions of options.
+#[tactic(auto, unfolding(crate::specs::Notes::subnet_lists))]
+fn note_subnet_lists(
+    notes: &mut NoteList,
+    subnet: &Value,
+    path: &str,
+    known: &[Definition],
+) -> Result<(), AllocError>
+    ensures { OnOk result
+        (notes.new ≡ notes.old ++ subnet_lists known.now path.now (view subnet.now)) }
+{
+    let pools = Listed {
+        key: "pools",
+        most: 64,
+    };
+    let hosts = Listed {
+        key: "reservations",
+        most: 4096,
+    };
+    note_part_options(notes, subnet, path, known)?;
+    note_list(notes, subnet, path, pools, PoolObject { known })?;
+    note_list(notes, subnet, path, hosts, HostObject)?;
+    note_value(notes, subnet, path, "relay", RelayObject)
+}
+
+// A pool, with the definitions of options.
+#[derive(Clone, Copy)]
+struct PoolObject<'a> {
+    known: &'a [Definition],
+}
+
+impl<'a> NotedObject for PoolObject<'a> {
+    ghost noted = { λ it. pool_notes it.known.now };
 
     #[tactic(auto, unfolding(crate::specs::Notes::pool_notes))]
     fn note(self, notes: &mut NoteList, pool: &Value, path: &str) -> Result<(), AllocError> {
-        note_keys(notes, pool, path, ObjectKind::Pool)?;
-        note_options(notes, pool, path)
+        if pool.as_object().is_none() {
+            return notes.push_path(path, NoteKind::Wrong);
+        }
+        let mut inner = NoteList::new(notes.allocator());
+        note_keys(&mut inner, pool, path, ObjectKind::Pool)?;
+        note_failed(&mut inner, has_range(pool), path, "pool", NoteKind::Wrong)?;
+        note_part_options(&mut inner, pool, path, self.known)?;
+        append_checked(notes, inner, &PoolReader { known: self.known }, pool, path)
     }
 }
 
-// Notes the options of the object at a path.
-fn note_options(notes: &mut NoteList, object: &Value, path: &str) -> Result<(), AllocError>
-    ensures { OnOk result (notes.new ≡ notes.old ++ option_notes path.now (view object.now)) }
-{
-    let option = FlatObject {
-        kind: ObjectKind::Data,
-    };
-    note_each(notes, object, path, "option-data", option)
+// A reservation.
+#[derive(Clone, Copy)]
+struct HostObject;
+
+impl NotedObject for HostObject {
+    ghost noted = { λ it. host_notes };
+
+    #[tactic(auto, unfolding(crate::specs::Notes::host_notes))]
+    fn note(self, notes: &mut NoteList, host: &Value, path: &str) -> Result<(), AllocError> {
+        if host.as_object().is_none() {
+            return notes.push_path(path, NoteKind::Wrong);
+        }
+        let mut inner = NoteList::new(notes.allocator());
+        note_keys(&mut inner, host, path, ObjectKind::Reservation)?;
+        append_checked(notes, inner, &ReservationReader, host, path)
+    }
 }
 
-// Notes the definitions of options of the object at a path.
-fn note_definitions(notes: &mut NoteList, object: &Value, path: &str) -> Result<(), AllocError>
-    ensures { OnOk result (notes.new ≡ notes.old ++ definition_notes path.now (view object.now)) }
+// The relay of a subnet.
+#[derive(Clone, Copy)]
+struct RelayObject;
+
+impl NotedObject for RelayObject {
+    ghost noted = { λ it. relay_notes };
+
+    #[tactic(auto, unfolding(crate::specs::Notes::relay_notes))]
+    fn note(self, notes: &mut NoteList, relay: &Value, path: &str) -> Result<(), AllocError> {
+        if relay.as_object().is_none() {
+            return notes.push_path(path, NoteKind::Wrong);
+        }
+        note_keys(notes, relay, path, ObjectKind::Relay)
+    }
+}
+
+// An option, by the definitions of a scope.
+#[derive(Clone, Copy)]
+struct OptionObject<'a> {
+    scope: OptionScope<'a>,
+}
+
+impl<'a> NotedObject for OptionObject<'a> {
+    ghost noted = { λ it. data_notes it.scope.for_all (definitions_in it.scope) };
+
+    #[tactic(auto, unfolding(crate::specs::Notes::data_notes))]
+    fn note(self, notes: &mut NoteList, option: &Value, path: &str) -> Result<(), AllocError> {
+        if option.as_object().is_none() {
+            return notes.push_path(path, NoteKind::Wrong);
+        }
+        let mut inner = NoteList::new(notes.allocator());
+        note_keys(&mut inner, option, path, ObjectKind::Data)?;
+        note_failed(
+            &mut inner,
+            has_served_space(option),
+            path,
+            "space",
+            NoteKind::Unknown,
+        )?;
+        append_checked(
+            notes,
+            inner,
+            &OptionReader { scope: self.scope },
+            option,
+            path,
+        )
+    }
+}
+
+// Notes the options of a part of the server at a path, by the definitions of the whole.
+fn note_part_options(
+    notes: &mut NoteList,
+    object: &Value,
+    path: &str,
+    known: &[Definition],
+) -> Result<(), AllocError>
+    ensures { OnOk result
+        (notes.new ≡ notes.old ++ option_notes false known.now path.now (view object.now)) }
 {
-    let definition = FlatObject {
-        kind: ObjectKind::Definition,
-    };
-    note_each(notes, object, path, "option-def", definition)
+    note_options(notes, object, path, part_scope(known))
+}
+
+// Notes the options for all clients at a path, by the definitions of the whole server.
+fn note_all_options(
+    notes: &mut NoteList,
+    object: &Value,
+    path: &str,
+    known: &[Definition],
+) -> Result<(), AllocError>
+    ensures { OnOk result
+        (notes.new ≡ notes.old ++ option_notes true known.now path.now (view object.now)) }
+{
+    note_options(notes, object, path, scope_of_all(known))
+}
+
+// Notes the options of the object at a path: each, and then the list.
+#[tactic(auto, unfolding(crate::specs::Notes::option_notes))]
+fn note_options(
+    notes: &mut NoteList,
+    object: &Value,
+    path: &str,
+    scope: OptionScope<'_>,
+) -> Result<(), AllocError>
+    ensures { OnOk result (notes.new ≡ notes.old
+        ++ option_notes scope.entry.for_all (definitions_in scope.entry) path.now
+        (view object.now)) }
+{
+    let list = notes.path_of_key(path, "option-data")?;
+    let mut inner = NoteList::new(notes.allocator());
+    note_each(
+        &mut inner,
+        object,
+        path,
+        "option-data",
+        OptionObject { scope },
+    )?;
+    append_checked(notes, inner, &OptionListReader { scope }, object, &list)
+}
+
+// A definition of an option, of a class or of the whole server.
+#[derive(Clone, Copy)]
+struct DefinitionObject {
+    in_class: bool,
+}
+
+impl NotedObject for DefinitionObject {
+    ghost noted = { λ it. definition_note it.in_class };
+
+    #[tactic(auto, unfolding(crate::specs::Notes::definition_note))]
+    fn note(self, notes: &mut NoteList, definition: &Value, path: &str) -> Result<(), AllocError> {
+        if definition.as_object().is_none() {
+            return notes.push_path(path, NoteKind::Wrong);
+        }
+        let reader = DefinitionReader {
+            in_class: self.in_class,
+        };
+        let mut inner = NoteList::new(notes.allocator());
+        note_keys(&mut inner, definition, path, ObjectKind::Definition)?;
+        append_checked(notes, inner, &reader, definition, path)
+    }
+}
+
+// Notes the definitions of options of the object at a path: each, and then the list.
+#[tactic(auto, unfolding(crate::specs::Notes::definition_notes))]
+fn note_definitions(
+    notes: &mut NoteList,
+    object: &Value,
+    path: &str,
+    in_class: bool,
+) -> Result<(), AllocError>
+    ensures { OnOk result
+        (notes.new ≡ notes.old ++ definition_notes in_class path.now (view object.now)) }
+{
+    let list = notes.path_of_key(path, "option-def")?;
+    let mut inner = NoteList::new(notes.allocator());
+    note_each(
+        &mut inner,
+        object,
+        path,
+        "option-def",
+        DefinitionObject { in_class },
+    )?;
+    append_checked(
+        notes,
+        inner,
+        &DefinitionListReader { in_class },
+        object,
+        &list,
+    )
 }
 
 // Notes the keys of an object at a path that are not read; none of another value.

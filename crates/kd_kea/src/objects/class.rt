@@ -1,5 +1,7 @@
-ghost use Rattle.std.specs.Prelude.{◌≡◌};
+ghost use Rattle.std.specs.Prelude.{◌≡◌, codes, is_some, option_and_then};
+ghost use Rattle.serde_json.specs.Find.{get};
 ghost use Rattle.serde_json.specs.View.{view};
+ghost use Rattle.kd_json.specs.Class.{class_name_in};
 ghost use Rattle.kd_json.specs.Gives.{Means};
 ghost use Rattle.kd_json.specs.declared.objects.faults.SettingsFault.TheVariants.{Memory};
 ghost use Rattle.kd_kea.specs.Class.{kea_class_options, kea_class, source_by};
@@ -54,6 +56,20 @@ impl<'a> EntryReader for ClassReader<'a> {
             source: source_of(non_empty(text)),
             options,
         })
+    }
+}
+
+// Reports whether a class has a name.
+pub(crate) fn has_class_name(class: &Value) -> bool
+    ensures { result
+        ≡ is_some (option_and_then class_name_in (get (codes "name") (view class.now))) }
+{
+    let Some(name) = class.get("name") else {
+        return false;
+    };
+    match name_in(name) {
+        Some(_) => true,
+        None => false,
     }
 }
 

@@ -1,17 +1,20 @@
-ghost use Rattle.std.specs.Prelude.{◌≡◌, ◌∷◌, ◌++◌, ◌&&◌, [], IfOk, Some, bytes_eq, codes, if◌then◌else◌, map, not, option_and_then};
+ghost use Rattle.std.specs.Prelude.{◌≡◌, ◌∷◌, ◌++◌, ◌&&◌, [], IfOk, Some, bytes_eq, codes, OnOk, if◌then◌else◌, map, not, option_and_then};
 ghost use Rattle.std.specs.List.{list_any, slice_split};
 ghost use Rattle.std.specs.Map.{lookup};
 ghost use Rattle.memchr.specs.Find.{is_byte};
 ghost use Rattle.serde_json.specs.Find.{as_str, get};
-ghost use Rattle.serde_json.specs.View.{view};
+ghost use Rattle.serde_json.specs.View.{items_view, view};
 ghost use Rattle.kd_json.specs.Gives.{GivesAs, Means};
 ghost use Rattle.kd_json.specs.Steps.{must};
 ghost use Rattle.kd_json.specs.Values.{number_within};
 ghost use Rattle.kd_json.specs.declared.objects.faults.SettingsFault.TheVariants.{Memory};
 ghost use Rattle.kd_names.specs.Table.{option_by_name};
-ghost use Rattle.kd_kea.specs.Definitions.{are_apart, are_of_one, field_types, fields_named, is_dhcp4, is_free_code, is_free_name, kea_definition, kea_definitions, kea_known, may_define, types_in, usual_vendor};
+ghost use Rattle.kd_kea.specs.Definitions.{are_apart, are_of_one, field_types, fields_named, is_dhcp4, is_free_code, is_free_name, kea_definition, kea_definitions, kea_known, may_define, standard_records, types_in, usual_vendor};
+ghost use Rattle.kd_kea.specs.RecordRows.{record_in};
+ghost use Rattle.kd_kea.specs.Notes.{each_described, usable_definitions, right_definitions};
 
 use crate::checking::check_keys;
+use crate::objects::alone::read_alone;
 use crate::objects::flags::{flag_at, text_at, text_or_default};
 use crate::objects::space::is_of_messages;
 use crate::tables::ObjectKind;
@@ -27,6 +30,50 @@ use std::alloc::{AllocError, Global};
 
 // The code of the option that consists of a vendor's options (RFC 2132 section 8.4).
 const OPTION_VENDOR_ENCAPSULATED: u8 = 43;
+
+// A standard option that is a record: its code, its name, the types of its fields, and whether the
+// last one may be there more than once.
+type RecordRow = (u8, &'static str, &'static [FieldType], bool);
+
+// The standard options that are records: a directory agent and a scope of SLP (RFC 2610), a network
+// interface and a machine (RFC 4578), and name servers (RFC 6731).
+const STANDARD_RECORDS: &[RecordRow] = &[
+    (
+        78,
+        "slp-directory-agent",
+        &[FieldType::Flag, FieldType::Address],
+        true,
+    ),
+    (
+        79,
+        "slp-service-scope",
+        &[FieldType::Flag, FieldType::Text],
+        false,
+    ),
+    (
+        94,
+        "client-ndi",
+        &[FieldType::Uint8, FieldType::Uint8, FieldType::Uint8],
+        false,
+    ),
+    (
+        97,
+        "uuid-guid",
+        &[FieldType::Uint8, FieldType::Bytes],
+        false,
+    ),
+    (
+        146,
+        "rdnss-selection",
+        &[
+            FieldType::Uint8,
+            FieldType::Address,
+            FieldType::Address,
+            FieldType::Name,
+        ],
+        true,
+    ),
+];
 
 // The first code for the options of a site (RFC 3942).
 const FIRST_SITE_CODE: u8 = 224;
@@ -50,9 +97,9 @@ pub(crate) struct Definition {
 
 // Reads definitions, of a class or of the whole server.
 #[derive(Clone, Copy)]
-struct DefinitionReader {
+pub(crate) struct DefinitionReader {
     // They are those of a class.
-    in_class: bool,
+    pub(crate) in_class: bool,
 }
 
 impl EntryReader for DefinitionReader {
@@ -301,22 +348,112 @@ pub(crate) fn known_definitions(
     Ok(with_usual(alloc, definitions)?)
 }
 
+// Reads the definitions of the whole server that are right by themselves, with those that are usual.
+#[tactic(auto, unfolding(crate::specs::Notes::usable_definitions))]
+pub(crate) fn known_alone(alloc: Global, dhcp4: &Value) -> Result<Entries<Definition>, AllocError>
+    ensures { IfOk result (λ known. known ≡ usable_definitions (view dhcp4.now)) }
+{
+    let definitions = definitions_alone(alloc, dhcp4, false)?;
+    with_usual(alloc, definitions)
+}
+
+// Reads the definitions of the list at the key `option-def` that are right by themselves.
+#[tactic(auto, unfolding(crate::specs::Notes::right_definitions))]
+pub(crate) fn definitions_alone(
+    alloc: Global,
+    object: &Value,
+    in_class: bool,
+) -> Result<Entries<Definition>, AllocError>
+    ensures { IfOk result (λ found. found ≡ right_definitions in_class (view object.now)) }
+{
+    let Some(value) = object.get("option-def") else {
+        return Ok(Entries::own(Vec::new(alloc)));
+    };
+    match value.as_array() {
+        Some(list) => right_among(alloc, list.as_slice(), DefinitionReader { in_class }),
+        None => Ok(Entries::own(Vec::new(alloc))),
+    }
+}
+
+// Reads the definitions among values that are right by themselves.
+fn right_among(
+    alloc: Global,
+    values: &[Value],
+    reader: DefinitionReader,
+) -> Result<Entries<Definition>, AllocError>
+    ensures { IfOk result (λ found. found
+        ≡ each_described (kea_definition reader.in_class) (items_view values.now)) }
+{
+    let mut found = Vec::new(alloc);
+    for value in values {
+        if let Some(definition) = read_alone(alloc, &reader, value)? {
+            found.push(definition)?;
+        }
+    }
+    Ok(Entries::own(found))
+}
+
 // Appends `vendor-encapsulated-options` as Kea defines it, which counts unless the configuration
-// defines it.
+// defines it, and the standard options that are records.
+#[tactic(auto, using(crate::proofs::Fields::usual_follow))]
 fn with_usual(
     alloc: Global,
     definitions: Entries<Definition>,
 ) -> Result<Entries<Definition>, AllocError>
-    ensures { IfOk result (λ all. all ≡ definitions ++ usual_vendor ∷ []) }
+    ensures { IfOk result (λ all. all ≡ definitions ++ usual_vendor ∷ standard_records) }
 {
     let mut all = definitions.into_vec();
-    all.push(Definition {
+    all.push(vendor_definition(alloc)?)?;
+    push_standard(alloc, &mut all)?;
+    Ok(Entries::own(all))
+}
+
+// Makes the definition of `vendor-encapsulated-options` as Kea has it.
+fn vendor_definition(alloc: Global) -> Result<Definition, AllocError>
+    ensures { IfOk result (λ it. it ≡ usual_vendor) }
+{
+    Ok(Definition {
         space: own_bytes(alloc, b"dhcp4")?,
         code: OPTION_VENDOR_ENCAPSULATED,
         name: own_bytes(alloc, b"vendor-encapsulated-options")?,
         fields: Some(Entries::own(Vec::new(alloc))),
         repeats: false,
         inner: own_bytes(alloc, b"vendor-encapsulated-options-space")?,
-    })?;
-    Ok(Entries::own(all))
+    })
+}
+
+// Appends the definitions of the standard options that are records.
+fn push_standard(alloc: Global, out: &mut Vec<Definition>) -> Result<(), AllocError>
+    ensures { OnOk result (out.new.items ≡ out.old.items ++ standard_records) }
+{
+    push_records(alloc, out, STANDARD_RECORDS)
+}
+
+// Appends the definitions of these rows.
+fn push_records(
+    alloc: Global,
+    out: &mut Vec<Definition>,
+    records: &[RecordRow],
+) -> Result<(), AllocError>
+    ensures { OnOk result (out.new.items ≡ out.old.items ++ map record_in records.now) }
+{
+    for row in records {
+        out.push(standard_record(alloc, *row)?)?;
+    }
+    Ok(())
+}
+
+// Makes the definition of a standard option that is a record.
+fn standard_record(alloc: Global, row: RecordRow) -> Result<Definition, AllocError>
+    ensures { IfOk result (λ it. it ≡ record_in row.entry) }
+{
+    let (code, name, fields, repeats) = row;
+    Ok(Definition {
+        space: own_bytes(alloc, b"dhcp4")?,
+        code,
+        name: own_bytes(alloc, name.as_bytes())?,
+        fields: Some(Entries::own(Vec::from_slice(alloc, fields)?)),
+        repeats,
+        inner: own_bytes(alloc, b"")?,
+    })
 }

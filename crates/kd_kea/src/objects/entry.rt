@@ -1,9 +1,10 @@
-ghost use Rattle.std.specs.Prelude.{◌≡◌, IfOk, codes, option_map};
+ghost use Rattle.std.specs.Prelude.{◌≡◌, IfOk, codes, option_and_then, option_map};
 ghost use Rattle.std.specs.Option.{option_copied};
-ghost use Rattle.serde_json.specs.Find.{get};
+ghost use Rattle.serde_json.specs.Find.{as_str, get};
 ghost use Rattle.serde_json.specs.View.{view};
 ghost use Rattle.kd_json.specs.Gives.{Means};
 ghost use Rattle.kd_json.specs.declared.objects.faults.SettingsFault.TheVariants.{Memory};
+ghost use Rattle.kd_kea.specs.Notes.{is_served_if_given};
 ghost use Rattle.kd_kea.specs.Options.{code_if_given, code_named, entry_by, fits_in_option, inner_space, has_known_type, kea_code, kea_entry, may_configure, may_have_name, may_stand_in, one_code, standard_code};
 ghost use Rattle.kd_kea.specs.OptionValue.{has_type, standard_type};
 ghost use Rattle.kd_kea.specs.Scope.{definitions_in};
@@ -74,6 +75,20 @@ impl<'a> EntryReader for OptionReader<'a> {
         let code = code_at(alloc, value, at, self.scope, space)?;
         let definition = self.scope.with_code(space, code);
         entry_at(alloc, value, at, definition, space, code)
+    }
+}
+
+// Reports whether the space of an option, if it is given as text, is one whose options are read.
+pub(crate) fn has_served_space(option: &Value) -> bool
+    ensures { result
+        ≡ is_served_if_given (option_and_then as_str (get (codes "space") (view option.now))) }
+{
+    let Some(value) = option.get("space") else {
+        return true;
+    };
+    match value.as_str() {
+        Some(space) => is_readable(space.as_bytes()),
+        None => true,
     }
 }
 

@@ -25,9 +25,30 @@ pub(crate) fn check_usual(
     ensures { Means Memory result
         (must (is_plain_if_given (plain_of usual) (get key.now (view object.now)))) }
 {
+    if is_usual_at(object, key, usual) {
+        Ok(())
+    } else {
+        Err(unknown(alloc, at, key))
+    }
+}
+
+// Reports whether a key is absent, or has its usual value.
+pub(crate) fn is_usual_at(object: &Value, key: &str, usual: UsualValue) -> bool
+    ensures { result ≡ is_plain_if_given (plain_of usual) (get key.now (view object.now)) }
+{
     match object.get(key) {
-        Some(value) if !is_usual(usual, value) => Err(unknown(alloc, at, key)),
-        _ => Ok(()),
+        Some(value) => is_usual(usual, value),
+        None => true,
+    }
+}
+
+// Returns the truth value at a key, if it is one; an absent one is false.
+pub(crate) fn flag_in(object: &Value, key: &str) -> Option<bool>
+    ensures { result ≡ flag_given (get key.now (view object.now)) }
+{
+    match object.get(key) {
+        Some(value) => value.as_bool(),
+        None => Some(false),
     }
 }
 
@@ -40,12 +61,9 @@ pub(crate) fn flag_at(
 ) -> Result<bool, SettingsFault>
     ensures { Means Memory result (flag_given (get key.now (view object.now))) }
 {
-    match object.get(key) {
-        Some(value) => match value.as_bool() {
-            Some(flag) => Ok(flag),
-            None => Err(bad_value(alloc, at, key)),
-        },
-        None => Ok(false),
+    match flag_in(object, key) {
+        Some(flag) => Ok(flag),
+        None => Err(bad_value(alloc, at, key)),
     }
 }
 

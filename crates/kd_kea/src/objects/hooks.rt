@@ -1,4 +1,4 @@
-ghost use Rattle.std.specs.Prelude.{◌≡◌, codes, map, nat_eq};
+ghost use Rattle.std.specs.Prelude.{◌≡◌, Some, codes, map, nat_eq};
 ghost use Rattle.std.specs.List.{ends_with, list_any};
 ghost use Rattle.serde_json.specs.Find.{get};
 ghost use Rattle.serde_json.specs.View.{items_view, view};
@@ -29,13 +29,20 @@ pub(crate) fn check_hooks(alloc: Global, dhcp4: &Value, at: &Place<'_>) -> Resul
         (must (hooks_are_quiet (get (codes "hooks-libraries") (view dhcp4.now)))) }
 {
     let key = "hooks-libraries";
-    let Some(value) = dhcp4.get(key) else {
-        return Ok(());
-    };
-    match value.as_array() {
-        Some(hooks) if are_all_quiet(hooks) => Ok(()),
-        _ => Err(unknown(alloc, at, key)),
+    match dhcp4.get(key) {
+        Some(value) if !are_quiet_hooks(value) => Err(unknown(alloc, at, key)),
+        _ => Ok(()),
     }
+}
+
+// Reports whether a value is a list of hooks that change nothing for clients.
+pub(crate) fn are_quiet_hooks(value: &Value) -> bool
+    ensures { result ≡ hooks_are_quiet (Some (view value.now)) }
+{
+    let Some(hooks) = value.as_array() else {
+        return false;
+    };
+    are_all_quiet(hooks)
 }
 
 // Reports whether each hook changes nothing for clients.

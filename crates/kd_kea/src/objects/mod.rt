@@ -1,20 +1,23 @@
 //! The objects of a configuration of Kea's, from the document down to an option: their keys, and
 //! what they describe.
 
-mod class;
-mod definition;
+pub(crate) mod alone;
+pub(crate) mod class;
+pub(crate) mod definition;
 pub(crate) mod document;
-mod entry;
-mod flags;
-mod hooks;
+pub(crate) mod entry;
+pub(crate) mod flags;
+pub(crate) mod hooks;
 mod inside;
 mod option_value;
-mod options;
-mod pool;
-mod reservation;
-mod scope;
-mod settings;
+pub(crate) mod options;
+mod parts;
+pub(crate) mod pool;
+mod quoted;
+pub(crate) mod reservation;
+pub(crate) mod scope;
+pub(crate) mod settings;
 mod space;
-mod subnet;
-mod times;
+pub(crate) mod subnet;
+pub(crate) mod times;
 mod whole_bytes;

@@ -1,17 +1,23 @@
-ghost use Rattle.kd_kea.specs.Pool.{kea_pool};
+ghost use Rattle.std.specs.Prelude.{◌≡◌, codes, is_some, option_and_then};
+ghost use Rattle.serde_json.specs.Find.{get};
+ghost use Rattle.serde_json.specs.View.{view};
+ghost use Rattle.kd_kea.specs.Pool.{kea_pool, kea_range};
 
 use crate::checking::check_keys;
 use crate::objects::definition::Definition;
 use crate::objects::options::options_of;
 use crate::objects::scope::part_scope;
 use crate::tables::ObjectKind;
-use kd_config::Pool;
+use kd_config::{Pool, Range};
 use kd_json::objects::faults::SettingsFault;
 use kd_json::objects::lists::EntryReader;
-use kd_json::objects::pool::range_in;
+use kd_json::objects::pool::addresses_in;
 use kd_json::rules::place::{Place, bad_value, missing};
 use serde_json::Value;
 use std::alloc::Global;
+
+// The most addresses of a pool: 64 times those of a pool of a configuration.
+const MOST_ADDRESSES: u32 = 4_194_304;
 
 // Reads pools.
 #[derive(Clone, Copy)]
@@ -36,5 +42,28 @@ impl<'a> EntryReader for PoolReader<'a> {
         };
         let options = options_of(alloc, value, at, part_scope(self.known))?;
         Ok(Pool { range, options })
+    }
+}
+
+// Returns the addresses of a pool.
+#[tactic(auto, unfolding(crate::specs::Pool::kea_range))]
+fn range_in(value: &Value) -> Option<Range>
+    ensures { result ≡ kea_range (view value.now) }
+{
+    let range = addresses_in(value)?;
+    if range.last - range.first < MOST_ADDRESSES {
+        Some(range)
+    } else {
+        None
+    }
+}
+
+// Reports whether a pool has a range.
+pub(crate) fn has_range(pool: &Value) -> bool
+    ensures { result ≡ is_some (option_and_then kea_range (get (codes "pool") (view pool.now))) }
+{
+    match pool.get("pool") {
+        Some(text) => range_in(text).is_some(),
+        None => false,
     }
 }

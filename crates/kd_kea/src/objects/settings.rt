@@ -1,4 +1,4 @@
-ghost use Rattle.std.specs.Prelude.{◌≡◌, codes};
+ghost use Rattle.std.specs.Prelude.{◌≡◌, Some, codes};
 ghost use Rattle.serde_json.specs.Find.{get};
 ghost use Rattle.serde_json.specs.View.{items_view, view};
 ghost use Rattle.kd_json.specs.Gives.{Means};
@@ -14,12 +14,12 @@ use crate::checking::check_keys;
 use crate::keys::{UsualValue, is_usual};
 use crate::objects::class::ClassReader;
 use crate::objects::definition::{Definition, known_definitions};
-use crate::objects::flags::{check_usual, flag_at};
+use crate::objects::flags::{check_usual, flag_at, is_usual_at};
 use crate::objects::hooks::check_hooks;
 use crate::objects::options::{address_among, options_of, without_server};
 use crate::objects::scope::scope_of_all;
 use crate::objects::subnet::{Above, SubnetReader};
-use crate::objects::times::{check_shares, times_of};
+use crate::objects::times::{check_shares, shares_in, times_of};
 use crate::tables::ObjectKind;
 use kd_classes::{OptionData, OptionList};
 use kd_json::objects::faults::SettingsFault;
@@ -48,7 +48,7 @@ pub(crate) fn root_of(
 
 // Reads the settings that the value of `Dhcp4` describes.
 #[tactic(auto, unfolding(crate::specs::Settings::kea_dhcp4))]
-fn settings_of(
+pub(crate) fn settings_of(
     alloc: Global,
     value: &Value,
     at: &Place<'_>,
@@ -68,13 +68,14 @@ fn settings_of(
         server,
         times,
         calculated,
+        shares: shares_in(value),
         outside,
     };
     settings_of_lists(alloc, value, at, known.as_slice(), options, above)
 }
 
 // Returns the server's address, by the options of the whole server.
-fn address_of(
+pub(crate) fn address_of(
     alloc: Global,
     options: &[OptionData],
     at: &Place<'_>,
@@ -172,19 +173,38 @@ fn check_off(
     check_usual(alloc, object, &Place::Key(&*at, name), key, usual)
 }
 
+// Reports whether a value is an object that turns nothing on: one key of it is absent, or has its
+// usual value.
+pub(crate) fn is_off(object: &Value, key: &str, usual: UsualValue) -> bool
+    ensures { result ≡ turns_nothing_on key.now (plain_of usual) (Some (view object.now)) }
+{
+    object.as_object().is_some() && is_usual_at(object, key, usual)
+}
+
 // Checks that reservations are looked for by hardware address and by identifier.
 fn check_identifiers(alloc: Global, dhcp4: &Value, at: &Place<'_>) -> Result<(), SettingsFault>
     ensures { Means Memory result
         (must (finds_reservations
         (get (codes "host-reservation-identifiers") (view dhcp4.now)))) }
 {
-    let key = "host-reservation-identifiers";
-    let Some(value) = dhcp4.get(key) else {
-        return Ok(());
+    if has_identifiers(dhcp4) {
+        Ok(())
+    } else {
+        Err(unknown(alloc, at, "host-reservation-identifiers"))
+    }
+}
+
+// Reports whether reservations are looked for by hardware address and by identifier.
+pub(crate) fn has_identifiers(dhcp4: &Value) -> bool
+    ensures { result
+        ≡ finds_reservations (get (codes "host-reservation-identifiers") (view dhcp4.now)) }
+{
+    let Some(value) = dhcp4.get("host-reservation-identifiers") else {
+        return true;
     };
     match value.as_array() {
-        Some(names) if has_text(names, "hw-address") && has_text(names, "client-id") => Ok(()),
-        _ => Err(unknown(alloc, at, key)),
+        Some(names) => has_text(names, "hw-address") && has_text(names, "client-id"),
+        None => false,
     }
 }
 

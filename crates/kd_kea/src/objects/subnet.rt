@@ -1,22 +1,26 @@
-ghost use Rattle.std.specs.Prelude.{◌≡◌};
+ghost use Rattle.std.specs.Prelude.{◌≡◌, codes, option_and_then};
 ghost use Rattle.serde_json.specs.Find.{get};
 ghost use Rattle.serde_json.specs.View.{view};
-ghost use Rattle.std.specs.Prelude.{codes};
 ghost use Rattle.std.specs.List.{list_all, list_any};
 ghost use Rattle.kd_config.specs.Apart.{has};
 ghost use Rattle.kd_json.specs.Gives.{Means};
+ghost use Rattle.kd_json.specs.Lists.{list_of};
 ghost use Rattle.kd_json.specs.Steps.{must};
+ghost use Rattle.kd_json.specs.Subnet.{subnet_prefix};
 ghost use Rattle.kd_json.specs.declared.objects.faults.SettingsFault.TheVariants.{Memory};
+ghost use Rattle.kd_kea.specs.Parts.{parts_of_all};
+ghost use Rattle.kd_kea.specs.Pool.{kea_pool};
 ghost use Rattle.kd_kea.specs.Subnet.{has_subnet_form, is_at_server, kea_subnet, kea_subnet_with, lies_outside, names_no_relay, stand_beside};
 
 use crate::checking::check_keys;
 use crate::objects::definition::Definition;
 use crate::objects::flags::{flag_or_default, non_empty};
 use crate::objects::options::options_of;
+use crate::objects::parts::parts_of_pools;
 use crate::objects::pool::PoolReader;
 use crate::objects::reservation::ReservationReader;
 use crate::objects::scope::part_scope;
-use crate::objects::times::check_times;
+use crate::objects::times::{Shares, check_times};
 use crate::tables::ObjectKind;
 use kd_config::{Pool, Prefix, Reservation, Reservations, Subnet, Times};
 use kd_json::objects::faults::SettingsFault;
@@ -24,7 +28,7 @@ use kd_json::objects::lists::{EntryReader, entries_of};
 use kd_json::objects::subnet::prefix_in;
 use kd_json::objects::values::{number_or, text_or_none};
 use kd_json::rules::place::{Place, bad_value, missing, unknown};
-use kd_wire::Bytes;
+use kd_wire::{Bytes, Entries};
 use serde_json::Value;
 use std::alloc::Global;
 
@@ -37,6 +41,8 @@ pub(crate) struct Above {
     pub(crate) times: Times,
     // T1 and T2 are calculated with Kea's rounding.
     pub(crate) calculated: bool,
+    // The shares of the lifetime by which they are.
+    pub(crate) shares: Shares,
     // Reservations are looked for outside pools alone, unless a subnet says otherwise.
     pub(crate) outside: bool,
 }
@@ -95,7 +101,14 @@ fn check_form(
     ensures { Means Memory result (has_subnet_form above (view value.now)) }
 {
     check_keys(alloc, value, at, ObjectKind::Subnet)?;
-    check_times(alloc, value, at, above.calculated, above.times)?;
+    check_times(
+        alloc,
+        value,
+        at,
+        above.calculated,
+        above.shares,
+        above.times,
+    )?;
     check_no_relay(alloc, value, at)?;
     number_or(alloc, value, at, "id", 1, 4_294_967_294, 1)?;
     Ok(())
@@ -122,13 +135,32 @@ fn check_interface(
     ensures { Means Memory result
         (must (is_at_server server prefix (get (codes "interface") (view subnet.now)))) }
 {
+    if has_server_interface(subnet, server, prefix) {
+        Ok(())
+    } else {
+        Err(unknown(alloc, at, "interface"))
+    }
+}
+
+// Reports whether a subnet's interface, if it is given, is the one with the server's address.
+pub(crate) fn has_server_interface(subnet: &Value, server: u32, prefix: Prefix) -> bool
+    ensures { result
+        ≡ is_at_server server prefix (get (codes "interface") (view subnet.now)) }
+{
     let Some(value) = subnet.get("interface") else {
-        return Ok(());
+        return true;
     };
     match value.as_str() {
-        Some(name) if name.is_empty() || prefix.contains(server) => Ok(()),
-        _ => Err(unknown(alloc, at, "interface")),
+        Some(name) => name.is_empty() || prefix.contains(server),
+        None => false,
     }
+}
+
+// Returns a subnet's prefix, if it is given and right.
+pub(crate) fn written_prefix(subnet: &Value) -> Option<Prefix>
+    ensures { result ≡ option_and_then subnet_prefix (get (codes "subnet") (view subnet.now)) }
+{
+    prefix_in(subnet.get("subnet")?)
 }
 
 // Builds the subnet of a prefix and a class with the lists in a value, by these definitions of
@@ -146,7 +178,7 @@ fn subnet_of_lists(
     ensures { Means Memory result
         (kea_subnet_with known.now outside prefix class (view value.now)) }
 {
-    let pools = entries_of(alloc, value, at, "pools", 64, &PoolReader { known })?;
+    let pools = pools_of(alloc, value, at, known)?;
     let reservations = entries_of(alloc, value, at, "reservations", 4096, &ReservationReader)?;
     check_outside(
         alloc,
@@ -166,6 +198,21 @@ fn subnet_of_lists(
     })
 }
 
+// Reads the pools of the list at the key `pools`.
+pub(crate) fn pools_of(
+    alloc: Global,
+    subnet: &Value,
+    at: &Place<'_>,
+    known: &[Definition],
+) -> Result<Entries<Pool>, SettingsFault>
+    ensures { Means Memory result
+        (option_and_then parts_of_all
+        (list_of 64 (kea_pool known.now) (get (codes "pools") (view subnet.now)))) }
+{
+    let pools = entries_of(alloc, subnet, at, "pools", 64, &PoolReader { known })?;
+    parts_of_pools(alloc, pools.as_slice(), at)
+}
+
 // Checks that reservations may stand beside pools: if they are looked for outside pools alone, that
 // no pool has the address of one.
 fn check_outside(
@@ -177,11 +224,18 @@ fn check_outside(
 ) -> Result<(), SettingsFault>
     ensures { Means Memory result (must (stand_beside outside pools.now reservations.now)) }
 {
-    if !outside || are_outside(pools, reservations) {
+    if may_be_beside(outside, pools, reservations) {
         Ok(())
     } else {
         Err(unknown(alloc, at, "reservations-out-of-pool"))
     }
+}
+
+// Reports whether reservations may stand beside pools.
+pub(crate) fn may_be_beside(outside: bool, pools: &[Pool], reservations: &[Reservation]) -> bool
+    ensures { result ≡ stand_beside outside pools.now reservations.now }
+{
+    !outside || are_outside(pools, reservations)
 }
 
 // Reports whether no pool has the address of a reservation.

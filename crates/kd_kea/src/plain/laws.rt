@@ -2,23 +2,25 @@
 //! nothing.
 ghost use Rattle.std.specs.Prelude.{◌≡◌, ℕ, List, Some, length};
 ghost use Rattle.kd_kea.specs.Plain.{plain, spans};
-ghost use Rattle.kd_kea.specs.PlainLaws.{HasNoCommentSign, HasNoLastComma, IsBlankedText};
-ghost use Rattle.kd_kea.specs.PlainLaws.{IsPlainAlready};
+ghost use Rattle.kd_kea.specs.PlainLaws.{HasNoCommentSign, HasNoFirstPoint, HasNoLastComma};
+ghost use Rattle.kd_kea.specs.PlainLaws.{IsBlankedText, IsPlainAlready};
 
-/// The plain text is the text with spaces in place of some bytes. None of these is a line feed, and
-/// each other byte is in its place. So a line and a column of the one are those of the other.
+/// The plain text is the text with spaces, and zeros before points, in place of some bytes. None of
+/// these is a line feed, and each other byte is in its place. So a line and a column of the one are
+/// those of the other.
 pub fn plain_text_is_blanked()
     ensures blanked { (text bytes : List ℕ) → plain text ≡ Some bytes → IsBlankedText text bytes }
     ensures length { (text bytes : List ℕ) → plain text ≡ Some bytes
         → length bytes ≡ length text }
 {}
 
-/// A text with no comment, and no comma before a closing bracket, is its own plain text, whatever
-/// its strings contain. So is a text without the signs `#` and `/` anywhere, and with no comma
-/// before a closing bracket, not even in its strings.
+/// A text with no comment, no comma before a closing bracket, and no white space right before a point
+/// is its own plain text, whatever its strings contain. So is a text without the signs `#` and `/`
+/// anywhere, and with no comma before a closing bracket and no white space right before a point, not
+/// even in its strings.
 pub fn plain_text_stays()
     ensures outside_strings { (text : List ℕ) → IsPlainAlready (spans text)
         → plain text ≡ Some text }
     ensures anywhere { (text : List ℕ) → HasNoCommentSign text → HasNoLastComma text
-        → plain text ≡ Some text }
+        → HasNoFirstPoint text → plain text ≡ Some text }
 {}

@@ -1,0 +1,11 @@
+use Rattle.std.proofs.lemmas.Result.{on_ok_weaker}
+use Rattle.kd_kea.proofs.Noted.{four_joined}
+use Rattle.kd_kea.specs.Notes.{lists_by}
+use Rattle.kd_kea.proofs.notes.objects.note_lists_by.Goals as goal
+
+pub returns : goal.returns
+unfolding lists_by
+returns c =
+    on_ok_weaker c.note_list-2.result
+    (four_joined _ _ _ _ _ _ _ _ _ c.in_ok-note_definitions.ensures c.in_ok-note_all_options.ensures c.in_ok-note_list.ensures)
+    c.note_list-2.ensures

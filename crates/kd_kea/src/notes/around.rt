@@ -1,0 +1,182 @@
+ghost use Rattle.std.specs.Prelude.{◌≡◌, IfOk};
+ghost use Rattle.serde_json.specs.View.{view};
+ghost use Rattle.kd_kea.specs.Notes.{above_by, around_of, is_not_failed, kea_address, kea_below, kea_beside, all_times};
+
+use crate::objects::alone::read_alone;
+use crate::objects::definition::{Definition, known_definitions};
+use crate::objects::flags::{flag_at, flag_in, flag_or_default};
+use crate::objects::options::options_of;
+use crate::objects::reservation::ReservationReader;
+use crate::objects::scope::scope_of_all;
+use crate::objects::settings::address_of;
+use crate::objects::subnet::{Above, SubnetReader, may_be_beside, pools_of};
+use crate::objects::times::{
+    Shares, shares_in, times_of, written_lifetime, written_rebind, written_renew,
+};
+use kd_config::Times;
+use kd_json::objects::faults::SettingsFault;
+use kd_json::objects::lists::{EntryReader, entries_of};
+use kd_json::rules::place::{Place, bad_place};
+use serde_json::Value;
+use std::alloc::{AllocError, Global};
+
+// What holds for the whole server, each part if it is right by itself.
+#[derive(Clone, Copy)]
+pub(crate) struct Around {
+    // The server's address.
+    pub(crate) address: Option<u32>,
+    // The lease and offer times.
+    pub(crate) times: Option<Times>,
+    // T1 and T2 are calculated with Kea's rounding.
+    pub(crate) calculated: Option<bool>,
+    // The shares of the lifetime by which they are.
+    pub(crate) shares: Shares,
+    // Reservations are looked for outside pools alone, unless a subnet says otherwise.
+    pub(crate) outside: Option<bool>,
+    // The lease time, T1 and T2, in seconds.
+    pub(crate) lifetime: Option<u32>,
+    pub(crate) renew: Option<u32>,
+    pub(crate) rebind: Option<u32>,
+}
+
+// Reads what holds for the whole server, whose address is the given one if no option has another.
+#[tactic(auto, unfolding(crate::specs::Notes::around_of))]
+pub(super) fn read_around(
+    alloc: Global,
+    dhcp4: &Value,
+    server: Option<u32>,
+) -> Result<Around, AllocError>
+    ensures { IfOk result (λ around. around ≡ around_of server (view dhcp4.now)) }
+{
+    Ok(Around {
+        address: read_alone(alloc, &AddressReader { server }, dhcp4)?,
+        times: read_alone(alloc, &TimesReader, dhcp4)?,
+        calculated: flag_in(dhcp4, "calculate-tee-times"),
+        shares: shares_in(dhcp4),
+        outside: flag_in(dhcp4, "reservations-out-of-pool"),
+        lifetime: written_lifetime(dhcp4),
+        renew: written_renew(dhcp4),
+        rebind: written_rebind(dhcp4),
+    })
+}
+
+// Reads the server's address, which is this one if no option has another.
+#[derive(Clone, Copy)]
+struct AddressReader {
+    server: Option<u32>,
+}
+
+impl EntryReader for AddressReader {
+    type Entry = u32;
+
+    ghost means = { λ reader. kea_address reader.server };
+
+    #[tactic(auto, unfolding(crate::specs::Notes::kea_address))]
+    fn read(&self, alloc: Global, dhcp4: &Value, at: &Place<'_>) -> Result<u32, SettingsFault> {
+        let known = known_definitions(alloc, dhcp4, at)?;
+        let options = options_of(alloc, dhcp4, at, scope_of_all(known.as_slice()))?;
+        address_of(alloc, options.as_slice(), at, self.server)
+    }
+}
+
+// Reads the lease and offer times of the whole server.
+#[derive(Clone, Copy)]
+pub(super) struct TimesReader;
+
+impl EntryReader for TimesReader {
+    type Entry = Times;
+
+    ghost means = { λ _. all_times };
+
+    #[tactic(auto, unfolding(crate::specs::Notes::all_times))]
+    fn read(&self, alloc: Global, dhcp4: &Value, at: &Place<'_>) -> Result<Times, SettingsFault> {
+        let calculated = flag_at(alloc, dhcp4, at, "calculate-tee-times")?;
+        times_of(alloc, dhcp4, at, calculated)
+    }
+}
+
+// Reads a subnet, if it is known what holds above it.
+#[derive(Clone, Copy)]
+pub(super) struct BelowReader<'a> {
+    pub(super) around: Around,
+    // The definitions of options.
+    pub(super) known: &'a [Definition],
+}
+
+impl<'a> EntryReader for BelowReader<'a> {
+    type Entry = ();
+
+    ghost means = { λ reader. kea_below (above_by reader.around) reader.known.now };
+
+    fn read(&self, alloc: Global, subnet: &Value, at: &Place<'_>) -> Result<(), SettingsFault> {
+        match above_in(self.around) {
+            Some(above) => {
+                let known = self.known;
+                SubnetReader { above, known }.read(alloc, subnet, at)?;
+                Ok(())
+            }
+            None => Ok(()),
+        }
+    }
+}
+
+// Returns what holds for the whole server, if all of it is right.
+#[tactic(auto, unfolding(crate::specs::Notes::above_by))]
+fn above_in(around: Around) -> Option<Above>
+    ensures { result ≡ above_by around }
+{
+    let server = around.address?;
+    let times = around.times?;
+    let calculated = around.calculated?;
+    let outside = around.outside?;
+    Some(Above {
+        server,
+        times,
+        calculated,
+        shares: around.shares,
+        outside,
+    })
+}
+
+// Reads whether reservations may stand beside the pools of a subnet.
+#[derive(Clone, Copy)]
+struct BesideReader<'a> {
+    // Reservations are looked for outside pools alone, unless the subnet says otherwise.
+    outside: Option<bool>,
+    // The definitions of options.
+    known: &'a [Definition],
+}
+
+impl<'a> EntryReader for BesideReader<'a> {
+    type Entry = bool;
+
+    ghost means = { λ reader. kea_beside reader.outside reader.known.now };
+
+    #[tactic(auto, unfolding(crate::specs::Notes::kea_beside))]
+    fn read(&self, alloc: Global, subnet: &Value, at: &Place<'_>) -> Result<bool, SettingsFault> {
+        let Some(other) = self.outside else {
+            return Err(bad_place(alloc, at));
+        };
+        let key = "reservations-out-of-pool";
+        let outside = flag_or_default(alloc, subnet, at, key, other)?;
+        let pools = pools_of(alloc, subnet, at, self.known)?;
+        let hosts = entries_of(alloc, subnet, at, "reservations", 4096, &ReservationReader)?;
+        Ok(may_be_beside(outside, pools.as_slice(), hosts.as_slice()))
+    }
+}
+
+// Reports whether reservations may stand beside the pools of a subnet, or that is not known.
+pub(super) fn is_beside(
+    alloc: Global,
+    subnet: &Value,
+    outside: Option<bool>,
+    known: &[Definition],
+) -> Result<bool, AllocError>
+    ensures { IfOk result (λ passed. passed
+        ≡ is_not_failed (kea_beside outside known.now (view subnet.now))) }
+{
+    match read_alone(alloc, &BesideReader { outside, known }, subnet)? {
+        Some(passed) => Ok(passed),
+        None => Ok(true),
+    }
+}

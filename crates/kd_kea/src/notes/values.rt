@@ -1,0 +1,455 @@
+ghost use Rattle.std.specs.Prelude.{◌≡◌, ◌++◌, OnOk, codes, is_some, option_and_then};
+ghost use Rattle.serde_json.specs.Find.{get};
+ghost use Rattle.serde_json.specs.View.{view};
+ghost use Rattle.kd_config.specs.Sound.{longest_lease};
+ghost use Rattle.kd_json.specs.Subnet.{subnet_prefix};
+ghost use Rattle.kd_json.specs.Values.{number_if_given, text_if_given};
+ghost use Rattle.kd_kea.specs.Notes.{calculated_notes, flag_note, hook_kind, hook_notes, interface_notes, lease_notes, limit_notes, number_note, off_notes, repeated_notes, repeated_shares, server_times, server_values, service_notes, share_notes, subnet_own, subnet_values, text_note, time_note, unused_share, unused_shares, usual_note};
+ghost use Rattle.kd_kea.specs.Rows.{plain_of};
+
+use crate::keys::{UsualValue, is_usual};
+use crate::notes::NoteKind;
+use crate::notes::around::{Around, TimesReader};
+use crate::notes::list::NoteList;
+use crate::notes::walk::{NotedObject, append_checked, note_failed, note_value};
+use crate::objects::flags::{flag_in, is_usual_at};
+use crate::objects::hooks::are_quiet_hooks;
+use crate::objects::settings::{has_identifiers, is_off};
+use crate::objects::subnet::{has_server_interface, written_prefix};
+use crate::objects::times::{
+    HALF, LONGEST, SEVEN_EIGHTHS, Shares, are_usable, key_of_shares, key_of_times, shares_in,
+    written_lifetime,
+};
+use kd_json::objects::values::number_in;
+use serde_json::Value;
+use std::alloc::AllocError;
+
+// Notes the keys of `Dhcp4` that are served with some values only.
+#[tactic(auto, unfolding(crate::specs::Notes::server_values))]
+pub(super) fn note_server_values(
+    notes: &mut NoteList,
+    dhcp4: &Value,
+    path: &str,
+) -> Result<(), AllocError>
+    ensures { OnOk result (notes.new ≡ notes.old ++ server_values path.now (view dhcp4.now)) }
+{
+    note_services(notes, dhcp4, path)?;
+    note_shares(notes, dhcp4, path, flag_in(dhcp4, "calculate-tee-times"))
+}
+
+// Notes what other services and hooks do, and where the configuration is kept.
+#[tactic(auto, unfolding(crate::specs::Notes::service_notes))]
+fn note_services(notes: &mut NoteList, dhcp4: &Value, path: &str) -> Result<(), AllocError>
+    ensures { OnOk result (notes.new ≡ notes.old ++ service_notes path.now (view dhcp4.now)) }
+{
+    let updates = OffValue {
+        key: "enable-updates",
+        usual: UsualValue::Flag(false),
+    };
+    let databases = OffValue {
+        key: "config-databases",
+        usual: UsualValue::EmptyList,
+    };
+    let identifiers = "host-reservation-identifiers";
+    note_value(notes, dhcp4, path, "dhcp-ddns", updates)?;
+    note_value(notes, dhcp4, path, "config-control", databases)?;
+    note_failed(
+        notes,
+        has_identifiers(dhcp4),
+        path,
+        identifiers,
+        NoteKind::Unknown,
+    )?;
+    note_value(notes, dhcp4, path, "hooks-libraries", HooksValue)
+}
+
+// Notes the keys of a subnet that are served with some values only, by what holds for the whole
+// server.
+#[tactic(auto, unfolding(crate::specs::Notes::subnet_values))]
+pub(super) fn note_subnet_values(
+    notes: &mut NoteList,
+    subnet: &Value,
+    path: &str,
+    around: Around,
+) -> Result<(), AllocError>
+    ensures { OnOk result
+        (notes.new ≡ notes.old ++ subnet_values around path.now (view subnet.now)) }
+{
+    note_repeated(notes, subnet, path, around)?;
+    note_calculated(notes, subnet, path, around.calculated)?;
+    note_repeated_shares(notes, subnet, path, around.calculated, around.shares)?;
+    note_interface(notes, subnet, path, around.address)
+}
+
+// Notes the times of a subnet, which may only be those of the whole server.
+#[tactic(auto, unfolding(crate::specs::Notes::repeated_notes))]
+fn note_repeated(
+    notes: &mut NoteList,
+    subnet: &Value,
+    path: &str,
+    around: Around,
+) -> Result<(), AllocError>
+    ensures { OnOk result
+        (notes.new ≡ notes.old ++ repeated_notes around path.now (view subnet.now)) }
+{
+    note_time(notes, subnet, path, "valid-lifetime", around.lifetime)?;
+    note_limits(notes, subnet, path, around.lifetime)?;
+    note_time(notes, subnet, path, "renew-timer", around.renew)?;
+    note_time(notes, subnet, path, "rebind-timer", around.rebind)
+}
+
+// A value that turns nothing on if its key is absent or has its usual value.
+#[derive(Clone, Copy)]
+struct OffValue {
+    key: &'static str,
+    usual: UsualValue,
+}
+
+impl NotedObject for OffValue {
+    ghost noted = { λ it. off_notes it.key.now (plain_of it.usual) };
+
+    fn note(self, notes: &mut NoteList, value: &Value, path: &str) -> Result<(), AllocError> {
+        if is_off(value, self.key, self.usual) {
+            return notes.push_path(path, NoteKind::Skipped);
+        }
+        if value.as_object().is_none() {
+            return notes.push_path(path, NoteKind::Wrong);
+        }
+        let path = notes.path_of_key(path, self.key)?;
+        notes.push_path(&path, NoteKind::Unknown)
+    }
+}
+
+// The list of hooks.
+#[derive(Clone, Copy)]
+struct HooksValue;
+
+impl NotedObject for HooksValue {
+    ghost noted = { λ it. hook_notes };
+
+    fn note(self, notes: &mut NoteList, hooks: &Value, path: &str) -> Result<(), AllocError> {
+        notes.push_path(path, kind_of_hooks(are_quiet_hooks(hooks)))
+    }
+}
+
+// Returns what is noted of hooks.
+fn kind_of_hooks(quiet: bool) -> NoteKind
+    ensures { result ≡ hook_kind quiet }
+{
+    if quiet {
+        NoteKind::Skipped
+    } else {
+        NoteKind::Unknown
+    }
+}
+
+// A share of T1 or T2 that is not used.
+#[derive(Clone, Copy)]
+struct UnusedShare {
+    usual: UsualValue,
+}
+
+impl NotedObject for UnusedShare {
+    ghost noted = { λ it. unused_share (plain_of it.usual) };
+
+    fn note(self, notes: &mut NoteList, share: &Value, path: &str) -> Result<(), AllocError> {
+        if is_usual(self.usual, share) {
+            return Ok(());
+        }
+        notes.push_path(path, NoteKind::Skipped)
+    }
+}
+
+// Notes the shares of T1 and T2 of the whole server, if it is known whether the times are
+// calculated.
+fn note_shares(
+    notes: &mut NoteList,
+    dhcp4: &Value,
+    path: &str,
+    calculated: Option<bool>,
+) -> Result<(), AllocError>
+    ensures { OnOk result
+        (notes.new ≡ notes.old ++ share_notes calculated path.now (view dhcp4.now)) }
+{
+    match calculated {
+        Some(true) => {
+            let passed = are_usable(shares_in(dhcp4));
+            note_failed(notes, passed, path, key_of_shares(dhcp4), NoteKind::Wrong)
+        }
+        Some(false) => note_unused_shares(notes, dhcp4, path),
+        None => Ok(()),
+    }
+}
+
+// Notes the shares of T1 and T2 of a subnet, which may only be those of the whole server if the
+// times are calculated.
+fn note_repeated_shares(
+    notes: &mut NoteList,
+    subnet: &Value,
+    path: &str,
+    calculated: Option<bool>,
+    shares: Shares,
+) -> Result<(), AllocError>
+    ensures { OnOk result
+        (notes.new ≡ notes.old ++ repeated_shares calculated shares path.now (view subnet.now)) }
+{
+    match calculated {
+        Some(true) => {
+            let renew = UsualValue::Fraction(shares.renew);
+            note_unusual(notes, subnet, path, "t1-percent", renew)?;
+            let rebind = UsualValue::Fraction(shares.rebind);
+            note_unusual(notes, subnet, path, "t2-percent", rebind)
+        }
+        Some(false) => note_unused_shares(notes, subnet, path),
+        None => Ok(()),
+    }
+}
+
+// Notes shares of T1 and T2 that are not used.
+fn note_unused_shares(notes: &mut NoteList, object: &Value, path: &str) -> Result<(), AllocError>
+    ensures { OnOk result (notes.new ≡ notes.old ++ unused_shares path.now (view object.now)) }
+{
+    let renew = UnusedShare {
+        usual: UsualValue::Fraction(HALF),
+    };
+    note_value(notes, object, path, "t1-percent", renew)?;
+    let rebind = UnusedShare {
+        usual: UsualValue::Fraction(SEVEN_EIGHTHS),
+    };
+    note_value(notes, object, path, "t2-percent", rebind)
+}
+
+// Notes the least and the greatest lifetime, if the lifetime is known.
+fn note_limits(
+    notes: &mut NoteList,
+    object: &Value,
+    path: &str,
+    lifetime: Option<u32>,
+) -> Result<(), AllocError>
+    ensures { OnOk result
+        (notes.new ≡ notes.old ++ limit_notes lifetime path.now (view object.now)) }
+{
+    note_time(notes, object, path, "min-valid-lifetime", lifetime)?;
+    note_time(notes, object, path, "max-valid-lifetime", lifetime)
+}
+
+// Notes a time that may only be one of the whole server, if that is known.
+fn note_time(
+    notes: &mut NoteList,
+    object: &Value,
+    path: &str,
+    key: &'static str,
+    time: Option<u32>,
+) -> Result<(), AllocError>
+    ensures { OnOk result
+        (notes.new ≡ notes.old ++ time_note time key.now path.now (view object.now)) }
+{
+    match time {
+        Some(time) => {
+            let usual = UsualValue::Number(u64::from(time));
+            note_unusual(notes, object, path, key, usual)
+        }
+        None => Ok(()),
+    }
+}
+
+// Notes whether the times of a subnet are calculated, if it is known of the whole server.
+fn note_calculated(
+    notes: &mut NoteList,
+    subnet: &Value,
+    path: &str,
+    calculated: Option<bool>,
+) -> Result<(), AllocError>
+    ensures { OnOk result
+        (notes.new ≡ notes.old ++ calculated_notes calculated path.now (view subnet.now)) }
+{
+    let Some(calculated) = calculated else {
+        return Ok(());
+    };
+    let usual = UsualValue::Flag(calculated);
+    note_unusual(notes, subnet, path, "calculate-tee-times", usual)
+}
+
+// Notes the interface of a subnet, if the server's address and the subnet's prefix are known.
+fn note_interface(
+    notes: &mut NoteList,
+    subnet: &Value,
+    path: &str,
+    address: Option<u32>,
+) -> Result<(), AllocError>
+    ensures { OnOk result (notes.new ≡ notes.old
+        ++ interface_notes address (option_and_then subnet_prefix (get (codes "subnet") (view subnet.now)))
+        path.now (view subnet.now)) }
+{
+    let Some(server) = address else {
+        return Ok(());
+    };
+    let Some(prefix) = written_prefix(subnet) else {
+        return Ok(());
+    };
+    let here = has_server_interface(subnet, server, prefix);
+    note_failed(notes, here, path, "interface", NoteKind::Unknown)
+}
+
+// Notes that a key of the object at a path is refused, unless it is absent or has its usual value.
+fn note_unusual(
+    notes: &mut NoteList,
+    object: &Value,
+    path: &str,
+    key: &'static str,
+    usual: UsualValue,
+) -> Result<(), AllocError>
+    ensures { OnOk result (notes.new
+        ≡ notes.old ++ usual_note (plain_of usual) path.now key.now (view object.now)) }
+{
+    let passed = is_usual_at(object, key, usual);
+    note_failed(notes, passed, path, key, NoteKind::Unknown)
+}
+
+// Notes the lease and offer times of the whole server: each by itself, and then one of
+// them if they are not in order.
+#[tactic(auto, unfolding(crate::specs::Notes::server_times))]
+pub(super) fn note_server_times(
+    notes: &mut NoteList,
+    dhcp4: &Value,
+    path: &str,
+) -> Result<(), AllocError>
+    ensures { OnOk result (notes.new ≡ notes.old ++ server_times path.now (view dhcp4.now)) }
+{
+    let last = notes.path_of_key(path, key_of_times(dhcp4))?;
+    let mut inner = NoteList::new(notes.allocator());
+    let offer = Number {
+        key: "offer-lifetime",
+        least: 0,
+        most: 86_400,
+    };
+    let decline = Number {
+        key: "decline-probation-period",
+        least: 1,
+        most: 31_536_000,
+    };
+    note_flag(&mut inner, dhcp4, path, "calculate-tee-times")?;
+    note_leases(&mut inner, dhcp4, path)?;
+    note_number(&mut inner, dhcp4, path, offer)?;
+    note_number(&mut inner, dhcp4, path, decline)?;
+    append_checked(notes, inner, &TimesReader, dhcp4, &last)
+}
+
+// Notes the lease times of the whole server, each by itself.
+#[tactic(auto, unfolding(crate::specs::Notes::lease_notes))]
+fn note_leases(notes: &mut NoteList, dhcp4: &Value, path: &str) -> Result<(), AllocError>
+    ensures { OnOk result (notes.new ≡ notes.old ++ lease_notes path.now (view dhcp4.now)) }
+{
+    let lifetime = Number {
+        key: "valid-lifetime",
+        least: 1,
+        most: LONGEST,
+    };
+    let renew = Number {
+        key: "renew-timer",
+        least: 1,
+        most: LONGEST,
+    };
+    let rebind = Number {
+        key: "rebind-timer",
+        least: 1,
+        most: LONGEST,
+    };
+    note_number(notes, dhcp4, path, lifetime)?;
+    note_limits(notes, dhcp4, path, written_lifetime(dhcp4))?;
+    note_number(notes, dhcp4, path, renew)?;
+    note_number(notes, dhcp4, path, rebind)
+}
+
+// Notes the values of a subnet that are wrong by themselves.
+#[tactic(auto, unfolding(crate::specs::Notes::subnet_own))]
+pub(super) fn note_subnet_own(
+    notes: &mut NoteList,
+    subnet: &Value,
+    path: &str,
+) -> Result<(), AllocError>
+    ensures { OnOk result (notes.new ≡ notes.old ++ subnet_own path.now (view subnet.now)) }
+{
+    let id = Number {
+        key: "id",
+        least: 1,
+        most: 4_294_967_294,
+    };
+    let prefix = written_prefix(subnet);
+    note_number(notes, subnet, path, id)?;
+    note_failed(notes, prefix.is_some(), path, "subnet", NoteKind::Wrong)?;
+    note_text(notes, subnet, path, "client-class")?;
+    note_flag(notes, subnet, path, "reservations-out-of-pool")
+}
+
+// A key of a number, and its range.
+#[derive(Clone, Copy)]
+struct Number {
+    key: &'static str,
+    least: u32,
+    most: u32,
+}
+
+// Notes that a number is wrong, unless it is absent or in its range.
+fn note_number(
+    notes: &mut NoteList,
+    object: &Value,
+    path: &str,
+    number: Number,
+) -> Result<(), AllocError>
+    ensures { OnOk result (notes.new ≡ notes.old
+        ++ number_note number.least number.most number.key.now path.now
+        (view object.now)) }
+{
+    let Number { key, least, most } = number;
+    let right = is_within(object, key, least, most);
+    note_failed(notes, right, path, key, NoteKind::Wrong)
+}
+
+// Reports whether the value at a key is absent, or a number in a range.
+fn is_within(object: &Value, key: &str, least: u32, most: u32) -> bool
+    ensures { result ≡ is_some (number_if_given least most least (get key.now (view object.now))) }
+{
+    match object.get(key) {
+        Some(value) => number_in(value, least, most).is_some(),
+        None => true,
+    }
+}
+
+// Notes that a truth value is wrong, unless it is absent or one.
+pub(super) fn note_flag(
+    notes: &mut NoteList,
+    object: &Value,
+    path: &str,
+    key: &'static str,
+) -> Result<(), AllocError>
+    ensures { OnOk result (notes.new ≡ notes.old ++ flag_note key.now path.now (view object.now)) }
+{
+    let right = flag_in(object, key).is_some();
+    note_failed(notes, right, path, key, NoteKind::Wrong)
+}
+
+// Notes that a text is wrong, unless it is absent or one.
+pub(super) fn note_text(
+    notes: &mut NoteList,
+    object: &Value,
+    path: &str,
+    key: &'static str,
+) -> Result<(), AllocError>
+    ensures { OnOk result (notes.new ≡ notes.old ++ text_note key.now path.now (view object.now)) }
+{
+    note_failed(notes, is_text(object, key), path, key, NoteKind::Wrong)
+}
+
+// Reports whether the value at a key is absent, or a text.
+fn is_text(object: &Value, key: &str) -> bool
+    ensures { result ≡ is_some (text_if_given (get key.now (view object.now))) }
+{
+    let Some(value) = object.get(key) else {
+        return true;
+    };
+    match value.as_str() {
+        Some(_) => true,
+        None => false,
+    }
+}
