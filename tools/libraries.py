@@ -106,8 +106,9 @@ def take_kept(rt, crates):
     return ready
 
 
-def prove_library(rt, crate, jobs):
-    """Proves a crate with `jobs` processes and builds its library. No check keeps its work."""
+def prove_library(rt, crate, jobs, is_waited_for):
+    """Proves a crate with `jobs` processes and builds its library. No check keeps its work. If no longest chain waits for it,
+    it leaves the processors to the crates that one waits for."""
     room = os.path.dirname(crate.rlib)
     shutil.rmtree(room, ignore_errors=True)
     os.makedirs(room)
@@ -116,7 +117,7 @@ def prove_library(rt, crate, jobs):
         crate = copy.copy(crate)
         crate.out = said
         words = [*crate.words(["--jobs", str(jobs)], keeps=False), "--statements"]
-        if crate.call(rt.rtlib.RATTLE, "build", *words, "-o", crate.rlib):
+        if crate.call(*([] if is_waited_for else ["nice"]), rt.rtlib.RATTLE, "build", *words, "-o", crate.rlib):
             said.seek(0)
             raise NotProved(said.read())
     if stamp_of(rt, crate) == stamp:
@@ -135,8 +136,9 @@ def chains(crates, costs):
 
 def side_by_side(rt, crates, proved, tell):
     """Proves these crates, each as soon as those below it are proved, where `proved` names the libraries that are ready. If
-    processors and memory are free, the crate that the longest chain waits for goes first, and half of the processors are for it,
-    and those that no other crate can use then. Calls `tell` with each crate's name and seconds."""
+    memory is free, each processor gets a crate, first the one that the longest chain waits for. That one has two processes or
+    more, and the others take what it leaves. A crate gets more processes if there are fewer crates than processors. Calls
+    `tell` with each crate's name and seconds."""
     above = chains(crates, minutes_of_proofs())
     left, running, proved = sorted(crates, key=lambda it: -above[it.name]), {}, {*proved}
     lanes, memory = rt.processors(), 0.85 * rt.free()
@@ -145,16 +147,16 @@ def side_by_side(rt, crates, proved, tell):
             ready = [it for it in left if all(below.name in proved for below in it.below())]
             longest = max([above[it.name] for it in left] + [above[it[0].name] for it in running.values()])
             for number, crate in enumerate(ready):
-                idle, least = lanes - sum(it[1] for it in running.values()), lanes // 2
-                if above[crate.name] < longest:
-                    others = sum(it[1] for it in running.values() if above[it[0].name] < longest)
-                    idle, least = min(idle, lanes - lanes // 2 - others), 1
-                jobs = max(1, min(idle, least), min(MOST_PROCESSES, idle - (len(ready) - number - 1)))
+                is_waited_for = above[crate.name] == longest
+                idle = lanes - sum(it[1] for it in running.values())
+                spare = min(MOST_PROCESSES, idle - (len(ready) - number - 1))
+                jobs = max(2 if is_waited_for else 1, spare)
                 needs = rt.need(crate) * (1 + 0.6 * (jobs - 1))
                 if running and (idle < 1 or sum(it[2] for it in running.values()) + needs > memory):
                     continue
                 left.remove(crate)
-                running[pool.submit(prove_library, rt, crate, jobs)] = crate, jobs, needs, time.monotonic()
+                taken = jobs - 1 if is_waited_for else jobs
+                running[pool.submit(prove_library, rt, crate, jobs, is_waited_for)] = crate, taken, needs, time.monotonic()
             for it in wait(running, return_when=FIRST_COMPLETED).done:
                 crate, _, _, began = running.pop(it)
                 it.result()
