@@ -1,4 +1,3 @@
-pub mod Findings
 pub mod Located
 pub mod Lookup
 pub mod Mark

@@ -1,17 +1,15 @@
-//! Reports in words what is wrong with a configuration or with another step of starting the server.
+//! Reports in words what is wrong with a configuration.
 //!
 //! What this layer promises to the one above: the report of a text and of the fault found in it is
 //! that of `specs/Report.antt`, byte for byte, except for two parts that the JSON reader chooses:
 //! the place where a text stops being JSON, and the digits of a number that is not an integer. The
 //! words for the faults are in `specs/Words.antt`, the value of the configuration that a fault is
-//! about in `specs/Lookup.antt`, the mark under a place in `specs/Mark.antt`, and the words for the
-//! other steps of a start in `specs/Findings.antt`. Where a path leads in a text is defined in
-//! `specs/Place.antt` (with a law in `specs/PlaceLaws.antt`), and the report that shows it in
-//! `specs/Located.antt`.
+//! about in `specs/Lookup.antt`, and the mark under a place in `specs/Mark.antt`. Where a path leads
+//! in a text is defined in `specs/Place.antt` (with a law in `specs/PlaceLaws.antt`), and the report
+//! that shows it in `specs/Located.antt`.
 #![tactic(auto)]
 
 mod class;
-pub mod findings;
 pub mod laws;
 mod line;
 mod located;

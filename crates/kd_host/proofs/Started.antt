@@ -10,7 +10,7 @@ use Rattle.kd_config.specs.Configuration.{Configuration}
 use Rattle.kd_database.specs.Stops.{LiesBelow}
 use Rattle.kd_database.specs.Stores.{IsStoreIn, StandsAsHeld, StandsNew}
 use Rattle.kd_host.specs.OnFiles.{GivesNoStore, IsNoStartOfThese, IsOfThese, Left, ReadsNone, RunsOnFiles, ServesFiles, TellsRefusal}
-use Rattle.kd_start.specs.declared.start.StartFault.{StartFault}
+use Rattle.kd_trouble.specs.declared.fault.StartFault.{StartFault}
 use Rattle.kd_keeps.specs.declared.fault.StoreFault.{StoreFault}
 use Rattle.kd_keeps.specs.declared.keeps.Keeps.{Ghosts}
 use Rattle.kd_program.specs.Running.{Carries, CarriesOut, IsStoreFor, IsStoreFound, ServesWork, Starts, WorksBy, WorksOver, live_view}

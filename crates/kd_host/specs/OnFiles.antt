@@ -19,7 +19,7 @@ use Rattle.kd_config.specs.Configuration.{Configuration}
 use Rattle.kd_database.specs.Image.{AreRowsIn, LacksTable, bytes_image}
 use Rattle.kd_database.specs.Stops.{LiesBelow}
 use Rattle.kd_database.specs.Stores.{IsNoStoreIn, IsStoreIn, StandsAsHeld, StandsNew}
-use Rattle.kd_start.specs.Faults.{start_fault_number}
+use Rattle.kd_trouble.specs.Faults.{start_fault_number}
 use Rattle.kd_io.specs.Looking.{IsCopyFault}
 use Rattle.kd_start.specs.KeaWords.{AreKeaRemarks, AreKeaStartWords}
 use Rattle.kd_start.specs.Start.{IsNoStartOfFiles, IsNoStartOfKeaFile, IsOfFiles, IsOfKeaFile}
@@ -27,7 +27,7 @@ use Rattle.kd_start.specs.Words.{AreStartWords}
 use Rattle.kd_io.specs.declared.link.Sending.{Sending}
 use Rattle.kd_io.specs.declared.look.LookFault.{LookFault}
 use Rattle.kd_io.specs.declared.look.LookFault.TheVariants as looks
-use Rattle.kd_start.specs.declared.start.StartFault.{StartFault}
+use Rattle.kd_trouble.specs.declared.fault.StartFault.{StartFault}
 use Rattle.kd_keeps.specs.Fault.{store_fault_number}
 use Rattle.kd_keeps.specs.declared.fault.Cause.TheVariants.{Closed}
 use Rattle.kd_keeps.specs.declared.fault.StoreFault.{StoreFault}

@@ -2,7 +2,6 @@ ghost use Rattle.std.specs.Prelude.{◌≡◌, is_some, option_map, string_bytes
 ghost use Rattle.std.specs.Option.{option_copied};
 ghost use Rattle.kd_host.specs.Trials.{IsUnused, count_told, seconds_told};
 
-use kd_check::findings::{SocketTrouble, StoreTrouble};
 use kd_commands::{Files, Form, Listening};
 use kd_config::Config;
 use kd_database::{left_out, let_go, rows_in_bytes, store_from};
@@ -12,10 +11,11 @@ use kd_loops::EndFailed;
 use kd_program::Host;
 use kd_rows::Row;
 use kd_start::{
-    StartFault, configuration, kea_configuration, kea_remarks, kea_start_words, start_words,
-    try_database, try_socket,
+    configuration, kea_configuration, kea_remarks, kea_start_words, start_words, try_database,
+    try_socket,
 };
 use kd_store::Store;
+use kd_trouble::{SocketTrouble, StartFault, StoreTrouble};
 use sqlite::{FileFrom, FileStore, Start};
 use sqlite_disk::{Disk, Memory};
 use std::alloc::{AllocError, Global};

@@ -6,8 +6,8 @@ use Rattle.std.specs.List.{find, flat_map, list_any}
 use Rattle.std.specs.Str.{bytes_eq}
 use Rattle.kd_classes.specs.Order.{built_in}
 use Rattle.kd_classes.specs.declared.definition.ClassDef.{ClassDef}
-use Rattle.kd_check.specs.declared.findings.SocketTrouble.{SocketTrouble}
-use Rattle.kd_check.specs.declared.findings.SocketTrouble.TheVariants as sockets
+use Rattle.kd_trouble.specs.declared.troubles.SocketTrouble.{SocketTrouble}
+use Rattle.kd_trouble.specs.declared.troubles.SocketTrouble.TheVariants as sockets
 use Rattle.kd_commands.specs.declared.orders.Files.{Files}
 use Rattle.kd_commands.specs.declared.orders.Form.{Form}
 use Rattle.kd_commands.specs.declared.orders.Form.TheVariants as forms
@@ -17,7 +17,7 @@ use Rattle.kd_config.specs.Configuration.{Configuration}
 use Rattle.kd_config.specs.declared.pool.Pool.{Pool}
 use Rattle.kd_config.specs.declared.prefix.Prefix.{Prefix}
 use Rattle.kd_config.specs.declared.subnet.Subnet.{Subnet}
-use Rattle.kd_start.specs.declared.start.StartFault.{StartFault}
+use Rattle.kd_trouble.specs.declared.fault.StartFault.{StartFault}
 use Rattle.kd_names.specs.Values.{sign_text}
 use Rattle.kd_program.specs.Banner.{subnet_addresses}
 use Rattle.kd_program.specs.declared.host.Host.{Ghosts as Hosts}

@@ -2,15 +2,15 @@
 -- none.
 use Rattle.std.specs.Prelude.{◌≡◌, ◌⊎◌, ℕ, Bool, true, false, List, [], ◌∷◌, Option, Some, None, Result, Ok, Err, if◌then◌else◌, length, option_map, string_bytes}
 use Rattle.std.specs.Result.{result_err}
-use Rattle.kd_check.specs.declared.findings.StoreTrouble.{StoreTrouble}
-use Rattle.kd_check.specs.declared.findings.StoreTrouble.TheVariants as troubles
-use Rattle.kd_check.specs.declared.findings.SocketTrouble.{SocketTrouble}
+use Rattle.kd_trouble.specs.declared.troubles.StoreTrouble.{StoreTrouble}
+use Rattle.kd_trouble.specs.declared.troubles.StoreTrouble.TheVariants as troubles
+use Rattle.kd_trouble.specs.declared.troubles.SocketTrouble.{SocketTrouble}
 use Rattle.kd_config.specs.Configuration.{Configuration}
 use Rattle.kd_io.specs.Faults.{look_fault_number}
-use Rattle.kd_start.specs.Faults.{start_fault_number}
+use Rattle.kd_trouble.specs.Faults.{start_fault_number}
 use Rattle.kd_io.specs.declared.look.LookFault.{LookFault}
 use Rattle.kd_io.specs.declared.look.LookFault.TheVariants as looks
-use Rattle.kd_start.specs.declared.start.StartFault.{StartFault}
+use Rattle.kd_trouble.specs.declared.fault.StartFault.{StartFault}
 use Rattle.kd_program.specs.Report.{IsCheckReport}
 use Rattle.kd_program.specs.Streams.{At, ShowsOrBreaks, Starves}
 use Rattle.kd_commands.specs.declared.orders.Place.{Place}

@@ -4,10 +4,10 @@ use Rattle.std.specs.Prelude.{IsTrue, List, [], ◌∷◌, ◌++◌, Option, Non
 use Rattle.std.specs.List.{flat_map, list_all}
 use Rattle.kd_program.specs.Advice.{IsAboutConfig}
 use Rattle.kd_config.specs.Configuration.{Configuration}
-use Rattle.kd_start.specs.declared.start.StartFault.{StartFault}
-use Rattle.kd_check.specs.Findings.{socket_trouble_words, store_trouble_words}
-use Rattle.kd_check.specs.declared.findings.SocketTrouble.{SocketTrouble}
-use Rattle.kd_check.specs.declared.findings.StoreTrouble.TheVariants as troubles
+use Rattle.kd_trouble.specs.declared.fault.StartFault.{StartFault}
+use Rattle.kd_trouble.specs.Troubles.{socket_trouble_words, store_trouble_words}
+use Rattle.kd_trouble.specs.declared.troubles.SocketTrouble.{SocketTrouble}
+use Rattle.kd_trouble.specs.declared.troubles.StoreTrouble.TheVariants as troubles
 use Rattle.kd_io.specs.declared.look.LookFault.{LookFault}
 use Rattle.kd_io.specs.declared.look.LookFault.TheVariants as looks
 use Rattle.kd_keeps.specs.declared.fault.StoreFault.TheVariants as stores

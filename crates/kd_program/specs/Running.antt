@@ -6,12 +6,12 @@ use Rattle.kd_answers.specs.Status.{replay_status_of, serve_status_of}
 use Rattle.kd_answers.specs.declared.printed.Printed.{Printed}
 use Rattle.kd_config.specs.Configuration.{Configuration}
 use Rattle.kd_io.specs.Faults.{look_fault_number}
-use Rattle.kd_start.specs.Faults.{start_fault_number}
+use Rattle.kd_trouble.specs.Faults.{start_fault_number}
 use Rattle.kd_event.specs.declared.ports.Ports.{Ports}
 use Rattle.kd_keeps.specs.Fault.{store_fault_number}
 use Rattle.kd_keeps.specs.Reading.{AreRead}
 use Rattle.kd_keeps.specs.declared.keeps.Keeps.{Ghosts}
-use Rattle.kd_check.specs.declared.findings.StoreTrouble.{StoreTrouble}
+use Rattle.kd_trouble.specs.declared.troubles.StoreTrouble.{StoreTrouble}
 use Rattle.kd_commands.specs.Order.{AsksFor, HasFault, line_fault_number}
 use Rattle.kd_commands.specs.declared.fault.LineFault.{LineFault}
 use Rattle.kd_commands.specs.declared.orders.Listening.{Listening}

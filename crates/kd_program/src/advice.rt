@@ -1,16 +1,16 @@
 ghost use Rattle.std.specs.Prelude.{◌≡◌, ◌++◌, ◌||◌, Bool, OnOk, Result, is_some, option_copied, option_map, string_bytes};
 ghost use Rattle.std.specs.List.{flat_map, list_any};
 ghost use Rattle.kd_classes.specs.Order.{built_in};
-ghost use Rattle.kd_check.specs.declared.findings.SocketTrouble.{SocketTrouble};
+ghost use Rattle.kd_trouble.specs.declared.troubles.SocketTrouble.{SocketTrouble};
 ghost use Rattle.kd_program.specs.Advice.{IsFoundMissing, advice_lines, asks_relay, class_trouble, def_asks, defined, is_absent, last_of, network_lines, pool_advice, pool_note};
 ghost use Rattle.kd_program.specs.Advice.{pool_text, required_trouble, server_advice, server_text, subnet_advice, subnet_note, subnet_text, test_asks};
 
 use crate::host::Host;
-use kd_check::findings::SocketTrouble;
 use kd_classes::{ClassDef, Classes};
 use kd_config::{Config, Pool, Prefix, Subnet};
 use kd_text::{put_address, put_prefix};
 use kd_token::{Token, Verified};
+use kd_trouble::SocketTrouble;
 use kd_wire::Bytes;
 use std::alloc::AllocError;
 

@@ -8,13 +8,12 @@ use crate::printing::{refuse_memory, show};
 use crate::report::report_of;
 use crate::serving::read_configuration;
 use kd_answers::exit_status;
-use kd_check::findings::{SocketTrouble, StoreTrouble};
 use kd_commands::{Files, Place};
 use kd_config::Config;
 use kd_io::LookFault;
 use kd_loops::{LoopFault, ServeFault, Sink, Source, starts_behind};
 use kd_rows::Rows;
-use kd_start::StartFault;
+use kd_trouble::{SocketTrouble, StartFault, StoreTrouble};
 use std::alloc::Global;
 
 // What was found out about a store.

@@ -1,24 +1,23 @@
-use kd_check::findings::{SocketTrouble, StoreTrouble};
 use kd_commands::{Files, Listening};
 use kd_config::Config;
 use kd_io::{Appended, LookFault};
 use kd_keeps::{Keeps, Opened, StoreFault};
 use kd_loops::{EndFailed, Link, Sink};
 use kd_rows::Row;
-use kd_start::StartFault;
+use kd_trouble::{SocketTrouble, StartFault, StoreTrouble};
 use std::alloc::AllocError;
 
 /// What a command finds outside its arguments and the standard streams.
 pub trait Host {
     ghost use Rattle.std.specs.Prelude.{◌≡◌, ℕ, Bool, Err, IfOk, List, MatchResult, Ok, Option, Result, false, is_some, string_bytes};
     ghost use Rattle.std.specs.List.{All};
-    ghost use Rattle.kd_check.specs.declared.findings.SocketTrouble.{SocketTrouble};
-    ghost use Rattle.kd_check.specs.declared.findings.StoreTrouble.{StoreTrouble};
+    ghost use Rattle.kd_trouble.specs.declared.troubles.SocketTrouble.{SocketTrouble};
+    ghost use Rattle.kd_trouble.specs.declared.troubles.StoreTrouble.{StoreTrouble};
     ghost use Rattle.kd_commands.specs.declared.orders.Files.{Files};
     ghost use Rattle.kd_commands.specs.declared.orders.Listening.{Listening};
     ghost use Rattle.kd_config.specs.Configuration.{Configuration};
     ghost use Rattle.kd_io.specs.declared.look.LookFault.{LookFault};
-    ghost use Rattle.kd_start.specs.declared.start.StartFault.{StartFault};
+    ghost use Rattle.kd_trouble.specs.declared.fault.StartFault.{StartFault};
     ghost use Rattle.kd_keeps.specs.Reading.{AreRead};
     ghost use Rattle.kd_keeps.specs.declared.fault.StoreFault.{StoreFault};
     ghost use Rattle.kd_loops.specs.declared.ends.EndFailed.{EndFailed};

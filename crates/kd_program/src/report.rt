@@ -6,13 +6,12 @@ use crate::advice::put_advice;
 use crate::banner::{pool_addresses, put_place};
 use crate::checking::{Found, SeenRows, StoreFinding};
 use crate::host::Host;
-use kd_check::findings::{SocketTrouble, StoreTrouble};
 use kd_commands::{Files, Form, Place};
 use kd_config::Config;
 use kd_io::LookFault;
 use kd_keeps::StoreFault;
 use kd_names::{put_signs, signs_of};
-use kd_start::StartFault;
+use kd_trouble::{SocketTrouble, StartFault, StoreTrouble};
 use std::alloc::{AllocError, Global};
 use std::fmt::Write;
 

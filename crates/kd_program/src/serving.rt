@@ -1,7 +1,7 @@
 ghost use Rattle.std.specs.Prelude.{◌≡◌, ◌++◌, ◌<◌, Err, IfOk, IsTrue, MatchResult, Ok, false, is_some, option_map, string_bytes};
 ghost use Rattle.std.specs.Option.{option_copied};
 ghost use Rattle.kd_answers.specs.Status.{status_of};
-ghost use Rattle.kd_start.specs.Faults.{start_fault_number};
+ghost use Rattle.kd_trouble.specs.Faults.{start_fault_number};
 ghost use Rattle.kd_keeps.specs.Fault.{store_fault_number};
 ghost use Rattle.kd_keeps.specs.Reading.{AreRead};
 ghost use Rattle.kd_program.specs.Streams.{TellsWith, at_ends, streams, written_to};
@@ -24,7 +24,7 @@ use kd_io::Appended;
 use kd_keeps::{Keeps, Opened, StoreFault};
 use kd_loops::{EndFailed, Limits, Link, LoopFault, Sink, Source};
 use kd_server::{Server, replay, serve};
-use kd_start::StartFault;
+use kd_trouble::StartFault;
 use std::alloc::{AllocError, Global};
 
 // What a command uses: its files, and the path of its store, unless that is in memory.

@@ -4,8 +4,8 @@ use Rattle.kd_config.specs.Configuration.{Configuration}
 use Rattle.kd_json.specs.declared.token_file.TokenFile.{TokenFile}
 use Rattle.kd_start.specs.Start.{AreOfFolder, IsNoKeaStart, IsNoStart, IsNoStartOfFiles, IsNoStartOfKeaFile, IsOfFiles, IsOfKeaFile, IsStart}
 use Rattle.kd_kea.specs.Kea.{IsKea}
-use Rattle.kd_start.specs.declared.start.StartFault.{StartFault}
-use Rattle.kd_start.specs.declared.start.StartFault.TheVariants as starts
+use Rattle.kd_trouble.specs.declared.fault.StartFault.{StartFault}
+use Rattle.kd_trouble.specs.declared.fault.StartFault.TheVariants as starts
 
 -- it is one of files
 pub of_files : (file folder : Bool) (text : Option (List ℕ)) (files : List TokenFile)

@@ -11,8 +11,8 @@ use Rattle.kd_kea.specs.declared.notes.NoteKind.{NoteKind}
 use Rattle.kd_kea.specs.declared.notes.NoteKind.TheVariants.{Skipped, Unknown, Wrong}
 use Rattle.kd_names.specs.Values.{sign_text}
 use Rattle.kd_start.specs.Words.{AreStartWords, HoldsOfText}
-use Rattle.kd_start.specs.declared.start.StartFault.{StartFault}
-use Rattle.kd_start.specs.declared.start.StartFault.TheVariants as starts
+use Rattle.kd_trouble.specs.declared.fault.StartFault.{StartFault}
+use Rattle.kd_trouble.specs.declared.fault.StartFault.TheVariants as starts
 
 -- ---- the keys that are skipped
 

@@ -1,4 +1,3 @@
-pub mod Faults
 pub mod KeaWords
 pub mod Start
 pub mod Trials

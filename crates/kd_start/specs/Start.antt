@@ -7,8 +7,8 @@ use Rattle.kd_json.specs.declared.fault.ConfigFault.TheVariants as configs
 use Rattle.kd_json.specs.declared.token_file.TokenFile.{TokenFile}
 use Rattle.kd_kea.specs.Kea.{IsKea}
 use Rattle.kd_io.specs.declared.files.InputFault.TheVariants as inputs
-use Rattle.kd_start.specs.declared.start.StartFault.{StartFault}
-use Rattle.kd_start.specs.declared.start.StartFault.TheVariants as starts
+use Rattle.kd_trouble.specs.declared.fault.StartFault.{StartFault}
+use Rattle.kd_trouble.specs.declared.fault.StartFault.TheVariants as starts
 
 -- the configuration that a text means with these token files, or the built-in one if there is no
 -- text

@@ -6,10 +6,10 @@ use Rattle.std.specs.List.{starts_with}
 use Rattle.std.specs.declared.io.Error.{Error}
 use Rattle.std.specs.declared.io.ErrorKind.{ErrorKind}
 use Rattle.std.specs.declared.io.ErrorKind.TheVariants as kinds
-use Rattle.kd_check.specs.declared.findings.SocketTrouble.{SocketTrouble}
-use Rattle.kd_check.specs.declared.findings.SocketTrouble.TheVariants as sockets
-use Rattle.kd_check.specs.declared.findings.StoreTrouble.{StoreTrouble}
-use Rattle.kd_check.specs.declared.findings.StoreTrouble.TheVariants as stores
+use Rattle.kd_trouble.specs.declared.troubles.SocketTrouble.{SocketTrouble}
+use Rattle.kd_trouble.specs.declared.troubles.SocketTrouble.TheVariants as sockets
+use Rattle.kd_trouble.specs.declared.troubles.StoreTrouble.{StoreTrouble}
+use Rattle.kd_trouble.specs.declared.troubles.StoreTrouble.TheVariants as stores
 
 -- a path that SQLite does not take as that of a file
 abbrev pub names_no_file : List ℕ → Bool

@@ -3,15 +3,15 @@ use Rattle.std.specs.Prelude.{◌≡◌, ◌⊎◌, ℕ, ◌≤◌, List, codes,
 use Rattle.std.specs.List.{flat_map}
 use Rattle.std.specs.declared.io.ErrorKind.{ErrorKind}
 use Rattle.std.specs.declared.io.ErrorKind.TheVariants as kinds
-use Rattle.kd_check.specs.Findings.{file_trouble_words}
+use Rattle.kd_trouble.specs.Troubles.{file_trouble_words}
 use Rattle.kd_check.specs.Report.{IsReport, bare_line}
-use Rattle.kd_check.specs.declared.findings.FileTrouble.{FileTrouble}
-use Rattle.kd_check.specs.declared.findings.FileTrouble.TheVariants as troubles
+use Rattle.kd_trouble.specs.declared.troubles.FileTrouble.{FileTrouble}
+use Rattle.kd_trouble.specs.declared.troubles.FileTrouble.TheVariants as troubles
 use Rattle.kd_io.specs.declared.files.InputFault.TheVariants as inputs
 use Rattle.kd_json.specs.declared.fault.ConfigFault.{ConfigFault}
 use Rattle.kd_names.specs.Values.{sign_text}
-use Rattle.kd_start.specs.declared.start.StartFault.{StartFault}
-use Rattle.kd_start.specs.declared.start.StartFault.TheVariants as starts
+use Rattle.kd_trouble.specs.declared.fault.StartFault.{StartFault}
+use Rattle.kd_trouble.specs.declared.fault.StartFault.TheVariants as starts
 
 -- the trouble with a file that an error of the system means
 abbrev pub file_trouble_of : ErrorKind → FileTrouble

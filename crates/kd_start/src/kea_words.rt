@@ -9,13 +9,13 @@ ghost use Rattle.kd_start.specs.KeaWords.{AreValueWords, IsSaidAt, IsSaidOfFault
 ghost use Rattle.kd_start.specs.KeaWords.{more_text, more_values, refused_lines, refused_paths, refused_place, remark_lines, skipped_line, skipped_lines, wrong_paths};
 ghost use Rattle.kd_start.specs.Words.{HoldsOfText};
 
-use crate::start::StartFault;
 use crate::trying::{start_words, text_again};
 use kd_check::{config_report, located_report, located_value_report, path_words};
 use kd_json::ConfigFault;
 use kd_kea::notes::{Note, NoteKind, notes_of};
 use kd_kea::{include_in, plain_text};
 use kd_names::{put_signs, signs_of};
+use kd_trouble::StartFault;
 use std::alloc::{AllocError, Global};
 
 // The most refused keys that are shown with their places. Each is looked for from the beginning of

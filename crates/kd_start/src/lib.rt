@@ -14,6 +14,6 @@ mod tokens;
 mod trying;
 
 pub use kea_words::{kea_remarks, kea_start_words};
-pub use start::{StartFault, config_of, configuration, kea_configuration};
+pub use start::{config_of, configuration, kea_configuration};
 pub use tokens::token_files;
 pub use trying::{start_words, try_database, try_socket};

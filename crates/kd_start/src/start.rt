@@ -1,81 +1,16 @@
 ghost use Rattle.std.specs.Prelude.{◌≡◌, IfErr, IfOk, is_some, true};
 ghost use Rattle.std.specs.Option.{option_copied};
 ghost use Rattle.kd_kea.specs.Kea.{IsKea};
-ghost use Rattle.kd_start.specs.Faults.{start_fault_number};
 ghost use Rattle.kd_start.specs.Start.{AreOfFolder, IsNoKeaStart, IsNoStart, IsNoStartOfFiles, IsNoStartOfKeaFile, IsOfFiles, IsOfKeaFile, IsStart};
 
 use crate::tokens::token_files;
 use kd_config::Config;
 use kd_io::{InputFault, MOST_BYTES, read_file};
-use kd_json::{ConfigFault, TokenFile, read_config};
+use kd_json::{TokenFile, read_config};
 use kd_kea::read_kea;
-use std::alloc::{AllocError, Global};
-use std::fmt;
+use kd_trouble::StartFault;
+use std::alloc::Global;
 use std::rt::Files;
-use thiserror::Error;
-
-/// Why there is no configuration to start with.
-#[derive(Drop, Error)]
-pub enum StartFault {
-    /// The folder of the token files or the configuration file cannot be read.
-    #[error("{0}")]
-    Input(InputFault),
-    /// The file's text is not a configuration.
-    #[error("{0}")]
-    Config(ConfigFault),
-}
-
-impl fmt::Debug for StartFault {
-    fn fmt<W: fmt::Write>(&self, f: &mut fmt::Formatter<W>) -> fmt::Result {
-        fmt::Display::fmt(self, f)
-    }
-}
-
-impl StartFault {
-    /// Returns the fault's number: 91 or 94, or that of the configuration's fault.
-    pub fn number(&self) -> u8
-        ensures { result ≡ start_fault_number self.now }
-    {
-        match self {
-            StartFault::Input(fault) => fault.number(),
-            StartFault::Config(fault) => fault.number(),
-        }
-    }
-}
-
-impl From<InputFault> for StartFault {
-    ghost use Rattle.std.specs.Prelude.{◌≡◌};
-    ghost use Rattle.kd_start.specs.declared.start.StartFault.TheVariants.{Input};
-
-    ghost from_gives = { λ fault e. e ≡ Input fault };
-
-    fn from(fault: InputFault) -> StartFault {
-        StartFault::Input(fault)
-    }
-}
-
-impl From<ConfigFault> for StartFault {
-    ghost use Rattle.std.specs.Prelude.{◌≡◌};
-    ghost use Rattle.kd_start.specs.declared.start.StartFault.TheVariants.{Config};
-
-    ghost from_gives = { λ fault e. e ≡ Config fault };
-
-    fn from(fault: ConfigFault) -> StartFault {
-        StartFault::Config(fault)
-    }
-}
-
-impl From<AllocError> for StartFault {
-    ghost use Rattle.std.specs.Prelude.{◌≡◌};
-    ghost use Rattle.kd_io.specs.declared.files.InputFault.TheVariants.{Memory};
-    ghost use Rattle.kd_start.specs.declared.start.StartFault.TheVariants.{Input};
-
-    ghost from_gives = { λ _ e. e ≡ Input Memory };
-
-    fn from(_error: AllocError) -> StartFault {
-        StartFault::Input(InputFault::Memory)
-    }
-}
 
 /// Returns the configuration of a text with these token files, or the built-in one if there is no
 /// text.

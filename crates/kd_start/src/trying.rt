@@ -2,18 +2,17 @@ ghost use Rattle.std.specs.Prelude.{◌≡◌, ◌≤◌, Err, IfErr, IfOk, IfSo
 ghost use Rattle.std.specs.IoError.{error_kind};
 ghost use Rattle.std.specs.Option.{option_copied};
 ghost use Rattle.libc.specs.Io.{Ended};
-ghost use Rattle.kd_check.specs.Findings.{file_trouble_words};
+ghost use Rattle.kd_trouble.specs.Troubles.{file_trouble_words};
 ghost use Rattle.kd_start.specs.Trials.{IsOutside, IsSocketTrial, IsStoreTrial, names_no_file, socket_trouble_of, store_trouble_of};
 ghost use Rattle.kd_start.specs.Words.{AreStartWords, IsConfigReport, IsFileReason, IsFolderReason, IsUnreadLine, file_trouble_of, line_about_subject};
 
-use crate::start::StartFault;
 use crate::tokens::token_files;
 use kd_check::config_report;
-use kd_check::findings::{FileTrouble, SocketTrouble, StoreTrouble};
 use kd_event::Ports;
 use kd_io::{InputFault, MOST_BYTES, place_at, read_file};
 use kd_json::ConfigFault;
 use kd_names::signs_of;
+use kd_trouble::{FileTrouble, SocketTrouble, StartFault, StoreTrouble};
 use libc::PATH_MAX;
 use os::RangeLock;
 use std::alloc::{AllocError, Global};

@@ -35,6 +35,7 @@ pub mod start;
 pub mod store;
 pub mod text;
 pub mod token;
+pub mod trouble;
 pub mod values;
 pub mod why;
 pub mod wire;

@@ -1,11 +1,11 @@
 -- The troubles of a start, in words: with a file, the database, or the socket.
 use Rattle.std.specs.Prelude.{ℕ, List, codes}
-use Rattle.kd_check.specs.declared.findings.FileTrouble.{FileTrouble}
-use Rattle.kd_check.specs.declared.findings.FileTrouble.TheVariants as file
-use Rattle.kd_check.specs.declared.findings.SocketTrouble.{SocketTrouble}
-use Rattle.kd_check.specs.declared.findings.SocketTrouble.TheVariants as socket
-use Rattle.kd_check.specs.declared.findings.StoreTrouble.{StoreTrouble}
-use Rattle.kd_check.specs.declared.findings.StoreTrouble.TheVariants as store
+use Rattle.kd_trouble.specs.declared.troubles.FileTrouble.{FileTrouble}
+use Rattle.kd_trouble.specs.declared.troubles.FileTrouble.TheVariants as file
+use Rattle.kd_trouble.specs.declared.troubles.SocketTrouble.{SocketTrouble}
+use Rattle.kd_trouble.specs.declared.troubles.SocketTrouble.TheVariants as socket
+use Rattle.kd_trouble.specs.declared.troubles.StoreTrouble.{StoreTrouble}
+use Rattle.kd_trouble.specs.declared.troubles.StoreTrouble.TheVariants as store
 
 -- why a file cannot be read
 abbrev pub file_trouble_words : FileTrouble → List ℕ

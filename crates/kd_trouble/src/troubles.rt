@@ -1,7 +1,7 @@
 //! The troubles that a step of starting the server can meet, in words that an operator can act on.
 
 ghost use Rattle.std.specs.Prelude.{◌≡◌};
-ghost use Rattle.kd_check.specs.Findings.{file_trouble_words, store_trouble_words, socket_trouble_words};
+ghost use Rattle.kd_trouble.specs.Troubles.{file_trouble_words, store_trouble_words, socket_trouble_words};
 
 use std::fmt;
 
@@ -43,7 +43,7 @@ impl FileTrouble {
 
 impl fmt::Display for FileTrouble {
     ghost use Rattle.std.specs.Prelude.{Some};
-    ghost use Rattle.kd_check.specs.Findings.{file_trouble_words};
+    ghost use Rattle.kd_trouble.specs.Troubles.{file_trouble_words};
 
     ghost output = { λ trouble. Some (file_trouble_words trouble) };
 
@@ -94,7 +94,7 @@ impl StoreTrouble {
 
 impl fmt::Display for StoreTrouble {
     ghost use Rattle.std.specs.Prelude.{Some};
-    ghost use Rattle.kd_check.specs.Findings.{store_trouble_words};
+    ghost use Rattle.kd_trouble.specs.Troubles.{store_trouble_words};
 
     ghost output = { λ trouble. Some (store_trouble_words trouble) };
 
@@ -139,7 +139,7 @@ impl SocketTrouble {
 
 impl fmt::Display for SocketTrouble {
     ghost use Rattle.std.specs.Prelude.{Some};
-    ghost use Rattle.kd_check.specs.Findings.{socket_trouble_words};
+    ghost use Rattle.kd_trouble.specs.Troubles.{socket_trouble_words};
 
     ghost output = { λ trouble. Some (socket_trouble_words trouble) };
 
