@@ -8,6 +8,7 @@ import re
 import shutil
 import tempfile
 import time
+from collections import namedtuple
 from concurrent.futures import FIRST_COMPLETED, ThreadPoolExecutor, wait
 
 import toolchain
@@ -15,6 +16,10 @@ import toolchain
 ROW = re.compile(r"^\| (\w+) \| ([\d.]+) \|", re.M)
 # The most processes that one crate gets: a crate of many functions gains little from more.
 MOST_PROCESSES = 4
+# The minutes of proofs by which a chain of crates may be shorter than the longest and still count as one that others wait for.
+SLACK = 2
+# A proof that is running.
+Running = namedtuple("Running", "crate jobs is_waited_for needs began")
 
 
 class NotProved(Exception):
@@ -134,34 +139,50 @@ def chains(crates, costs):
     return found
 
 
+def fitting(rt, crate, jobs, memory):
+    """How many processes, of at most this many, a proof of the crate can have in this memory, but at least one; and the memory
+    that they need."""
+    needs = rt.need(crate)
+    while jobs > 1 and needs * (1 + 0.6 * (jobs - 1)) > memory:
+        jobs -= 1
+    return jobs, needs * (1 + 0.6 * (jobs - 1))
+
+
 def side_by_side(rt, crates, proved, tell):
     """Proves these crates, each as soon as those below it are proved, where `proved` names the libraries that are ready. If
-    memory is free, each processor gets a crate, first the one that the longest chain waits for. That one has two processes or
-    more, and the others take what it leaves. A crate gets more processes if there are fewer crates than processors. Calls
-    `tell` with each crate's name and seconds."""
+    memory is free, each processor gets a crate, first the one that the longest chain waits for. That one and those whose chain
+    is hardly shorter have two processes, if there are processors for all of these, and the others take what they leave. A
+    crate gets more processes if there are fewer crates than processors, and fewer if there is no memory for them. If there is
+    none for a crate that a longest chain waits for, no other begins before it. Calls `tell` with each crate's name and
+    seconds."""
     above = chains(crates, minutes_of_proofs())
     left, running, proved = sorted(crates, key=lambda it: -above[it.name]), {}, {*proved}
     lanes, memory = rt.processors(), 0.85 * rt.free()
     with ThreadPoolExecutor(lanes) as pool:
         while left or running:
             ready = [it for it in left if all(below.name in proved for below in it.below())]
-            longest = max([above[it.name] for it in left] + [above[it[0].name] for it in running.values()])
+            longest = max([above[it.name] for it in left] + [above[it.crate.name] for it in running.values()])
             for number, crate in enumerate(ready):
-                is_waited_for = above[crate.name] == longest
-                idle = lanes - sum(it[1] for it in running.values())
-                spare = min(MOST_PROCESSES, idle - (len(ready) - number - 1))
-                jobs = max(2 if is_waited_for else 1, spare)
-                needs = rt.need(crate) * (1 + 0.6 * (jobs - 1))
-                if running and (idle < 1 or sum(it[2] for it in running.values()) + needs > memory):
+                idle = lanes - len(running) - (len(ready) - number - 1)
+                if len(running) == lanes:
+                    break
+                is_waited_for = longest - above[crate.name] < SLACK
+                busy = sum(it.jobs for it in running.values() if it.is_waited_for)
+                least = 2 if is_waited_for and busy + 2 <= lanes else 1
+                free = memory - sum(it.needs for it in running.values())
+                jobs, needs = fitting(rt, crate, max(least, min(MOST_PROCESSES, idle)), free)
+                if needs > free and running:
+                    if is_waited_for:
+                        break
                     continue
                 left.remove(crate)
-                taken = jobs - 1 if is_waited_for else jobs
-                running[pool.submit(prove_library, rt, crate, jobs, is_waited_for)] = crate, taken, needs, time.monotonic()
+                begun = pool.submit(prove_library, rt, crate, jobs, is_waited_for)
+                running[begun] = Running(crate, jobs, is_waited_for, needs, time.monotonic())
             for it in wait(running, return_when=FIRST_COMPLETED).done:
-                crate, _, _, began = running.pop(it)
+                ended = running.pop(it)
                 it.result()
-                proved.add(crate.name)
-                tell(crate.name, time.monotonic() - began)
+                proved.add(ended.crate.name)
+                tell(ended.crate.name, time.monotonic() - ended.began)
 
 
 def prepare(rt, crates, tell=lambda name, seconds: None, plan=lambda ready: None):
