@@ -28,6 +28,7 @@ subnet = record {
   prefix = prefix;
   few_pools = omega arith;
   pools = (pool, tt);
+  few_relays = omega arith;
   few_reservations = omega arith;
   reservations = tt;
   options = no_options;

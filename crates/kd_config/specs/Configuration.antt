@@ -27,6 +27,7 @@ builtin_pool = record { range = record { first = 0xc000020a; last = 0xc000020b }
 abbrev pub subnet_built_in : Subnet
 subnet_built_in = record {
   prefix = record { address = 0xc0000200; length = 24 };
+  relays = [];
   class = None;
   pools = builtin_pool ∷ [];
   reservations = [];

@@ -15,6 +15,7 @@ use Rattle.kd_config.specs.declared.prefix.Prefix.{Prefix}
 use Rattle.kd_config.specs.declared.range.Range.{Range}
 use Rattle.kd_config.specs.declared.reservation.Identity.{Identity}
 use Rattle.kd_config.specs.declared.reservation.Identity.TheVariants.{Hardware, ClientId}
+use Rattle.kd_config.specs.declared.reservation.Reservation.{Reservation}
 use Rattle.kd_config.specs.declared.subnet.Subnet.{Subnet}
 use Rattle.kd_config.specs.declared.times.Times.{Times}
 
@@ -80,14 +81,19 @@ abbrev pub IsIdentity : Identity → Type 0
 IsIdentity (Hardware bytes) = IsFrom 1 16 (length bytes)
 IsIdentity (ClientId bytes) = IsFrom 1 255 (length bytes)
 
+-- a reservation
+pub record IsReservation (reservation : Reservation) : Type 0 where
+  pub identity : IsIdentity reservation.identity
+  pub options : AreOptions reservation.options
+
 -- a subnet
 pub record IsSubnet (subnet : Subnet) : Type 0 where
   pub prefix : IsPrefix subnet.prefix
+  pub few_relays : length subnet.relays ≤ 64
   pub few_pools : length subnet.pools ≤ 64
   pub pools : AllByRecursion IsPool subnet.pools
   pub few_reservations : length subnet.reservations ≤ 4096
-  pub reservations : AllByRecursion
-      (λ reservation. IsIdentity reservation.identity) subnet.reservations
+  pub reservations : AllByRecursion IsReservation subnet.reservations
   pub options : AreOptions subnet.options
 
 -- subnets that are accepted together

@@ -65,6 +65,7 @@ fn builtin_subnet(alloc: Global) -> Result<Subnet, AllocError>
             address: 0xc000_0200,
             length: 24,
         },
+        relays: Entries::own(Vec::new(alloc)),
         class: None,
         pools: Entries::own(pools),
         reservations: Reservations::none(alloc),

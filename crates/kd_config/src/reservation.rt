@@ -1,3 +1,4 @@
+use kd_classes::OptionList;
 use kd_wire::Bytes;
 
 /// The client that a reservation is for.
@@ -9,11 +10,13 @@ pub enum Identity {
     ClientId(Bytes),
 }
 
-/// An address that is reserved for one client.
+/// An address that is reserved for one client, and the options of that client.
 #[derive(Drop)]
 pub struct Reservation {
     /// The client.
     pub identity: Identity,
     /// The address, in host order.
     pub address: u32,
+    /// The options of the replies to the client, whatever address they assign.
+    pub options: OptionList,
 }

@@ -9,6 +9,9 @@ use kd_wire::{Bytes, Entries};
 pub struct Subnet {
     /// The addresses of the subnet.
     pub prefix: Prefix,
+    /// The addresses of relays that stand for the subnet, in host order, at most 64. A message
+    /// from one of them is of this subnet, whatever its prefix.
+    pub relays: Entries<u32>,
     /// The class that a client must be in, if there is one.
     pub class: Option<Bytes>,
     /// Its pools, at most 64.

@@ -1,5 +1,5 @@
 -- Lines of the entries of lists, in order.
-use Rattle.std.proofs.Common.{◌≡◌, ℕ, zero, suc, ◌+◌, ◌<◌, ◌≤◌, arith, List, [], ◌∷◌, ◌++◌, length, drop, take, Option, Some, None, refl, sym, ap, ap₂, ◌∙◌, append_assoc, append-nil, subst, false, if◌then◌else◌, true≢false, is_some}
+use Rattle.std.proofs.Common.{◌≡◌, Bool, ℕ, zero, suc, ◌+◌, ◌<◌, ◌≤◌, arith, List, [], ◌∷◌, ◌++◌, length, drop, take, Option, Some, None, refl, sym, ap, ap₂, ◌∙◌, append_assoc, append-nil, subst, false, if◌then◌else◌, true≢false, is_some}
 use Rattle.std.specs.Prelude.{codes, slice_get}
 use Rattle.std.specs.List.{flat_map}
 use Rattle.std.proofs.lemmas.List.{at_drop_all}
@@ -91,13 +91,15 @@ module _ (Line : Item → List ℕ → Type 0) (items : List Item) where
       (lead [] (subst (λ (left : List Item). AreOptionLines Line left []) (sym (at_drop_all (λ xs. xs) items i past)) refl))
 
 -- no subnets remain to serve
-pub none_left : (place : ℕ) (names : List (List ℕ)) (left : List Subnet) → length left < 1 → codes "subnet - none serves\n" ≡ sought_lines place names left
+pub none_left : (by_relay : Bool) (place : ℕ) (names : List (List ℕ)) (left : List Subnet) → length left < 1
+    → codes "subnet - none serves\n" ≡ sought_lines by_relay place names left
 unfolding sought_lines
-none_left place names [] h = refl
-none_left place names (s ∷ left) h = absurd (omega (arith, h))
+none_left by_relay place names [] h = refl
+none_left by_relay place names (s ∷ left) h = absurd (omega (arith, h))
 
-module _ (place : ℕ) (names : List (List ℕ)) (s : Subnet) (subnets : List Subnet) where
+module _ (by_relay : Bool) (place : ℕ) (names : List (List ℕ)) (s : Subnet) (subnets : List Subnet) where
   -- the lines of subnets, the first of which does not serve
-  pub passed_first : served_by place names s ≡ false → sought_lines place names (s ∷ subnets) ≡ sought_line s (passed_words place s) ++ sought_lines place names subnets
+  pub passed_first : served_by by_relay place names s ≡ false
+      → sought_lines by_relay place names (s ∷ subnets) ≡ sought_line s (passed_words by_relay place s) ++ sought_lines by_relay place names subnets
   unfolding sought_lines
-  passed_first is = ap (λ b. if b then sought_line s (codes " serves") ++ flat_map unasked_line subnets else sought_line s (passed_words place s) ++ sought_lines place names subnets) is
+  passed_first is = ap (λ b. if b then sought_line s (codes " serves") ++ flat_map unasked_line subnets else sought_line s (passed_words by_relay place s) ++ sought_lines by_relay place names subnets) is

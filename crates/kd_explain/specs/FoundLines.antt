@@ -3,7 +3,6 @@
 use Rattle.std.specs.Prelude.{ℕ, ◌==◌, ◌&&◌, not, Bool, true, false, is_some, if◌then◌else◌, List, [], ◌∷◌, ◌++◌, drop, Option, Some, None, Result, Err, codes, decimal, option_copied}
 use Rattle.std.specs.List.{flat_map}
 use Rattle.kd_classes.specs.declared.definition.ClassDef.{ClassDef}
-use Rattle.kd_config.specs.Address.{has_address}
 use Rattle.kd_config.specs.Configuration.{Configuration}
 use Rattle.kd_config.specs.declared.reservation.Identity.{Identity}
 use Rattle.kd_config.specs.declared.reservation.Identity.TheVariants as identities
@@ -14,7 +13,7 @@ use Rattle.kd_event.specs.declared.reason.Reason.TheVariants as reasons
 use Rattle.kd_lease.specs.Choice.{requested_address}
 use Rattle.kd_lease.specs.Client.{kind_of}
 use Rattle.kd_lease.specs.Rules.{named_server}
-use Rattle.kd_lease.specs.SubnetOf.{message_place, served_by}
+use Rattle.kd_lease.specs.SubnetOf.{has_place, is_by_relay, message_place, served_by}
 use Rattle.kd_lease.specs.declared.plan.Plan.{Plan}
 use Rattle.kd_lease.specs.declared.ranks.Ranks.{Ranks}
 use Rattle.kd_machine.specs.declared.run.Outcome.{Outcome}
@@ -112,13 +111,17 @@ abbrev pub class_word : Option (List ℕ) → List ℕ
 class_word None = codes "-"
 class_word (Some class) = name_text class
 
--- why a subnet is passed over: the place is outside its prefix; otherwise the message is not in its
--- class
-unfoldable pub passed_words : ℕ → Subnet → List ℕ
-passed_words place s =
-    if has_address s.prefix place
+-- what a place is to a subnet that does not have it
+abbrev pub elsewhere_words : Bool → List ℕ
+elsewhere_words by_relay = if by_relay then codes " is no relay of it" else codes " is outside"
+
+-- why a subnet is passed over: the place is no relay of it, or outside its prefix; otherwise the
+-- message is not in its class
+unfoldable pub passed_words : Bool → ℕ → Subnet → List ℕ
+passed_words by_relay place s =
+    if has_place by_relay place s
     then codes " passed over: the client is not in class " ++ class_word s.class
-    else codes " passed over: " ++ address_text place ++ codes " is outside"
+    else codes " passed over: " ++ address_text place ++ elsewhere_words by_relay
 
 -- the line of a subnet after the one that serves
 abbrev pub unasked_line : Subnet → List ℕ
@@ -126,12 +129,12 @@ unasked_line s = sought_line s (codes " not asked")
 
 -- the lines of subnets for a place and a message with these class names: those that are passed
 -- over, the first that serves, and those after it
-unfoldable pub sought_lines : ℕ → List (List ℕ) → List Subnet → List ℕ
-sought_lines place names [] = codes "subnet - none serves\n"
-sought_lines place names (s ∷ subnets) =
-    if served_by place names s
+unfoldable pub sought_lines : Bool → ℕ → List (List ℕ) → List Subnet → List ℕ
+sought_lines by_relay place names [] = codes "subnet - none serves\n"
+sought_lines by_relay place names (s ∷ subnets) =
+    if served_by by_relay place names s
     then sought_line s (codes " serves") ++ flat_map unasked_line subnets
-    else sought_line s (passed_words place s) ++ sought_lines place names subnets
+    else sought_line s (passed_words by_relay place s) ++ sought_lines by_relay place names subnets
 
 -- ---- its reservation
 
@@ -206,6 +209,7 @@ found_text config m now e =
     message_lines now m e.client
     ++ (class_lines config.classes e.outcomes.items ++ names_line e.names)
     ++ place_line config.server m.header
-    ++ sought_lines (message_place config.server m.header) e.names config.subnets
+    ++ sought_lines (is_by_relay config e.names m.header) (message_place config.server m.header)
+    e.names config.subnets
     ++ reservation_line (option_copied e.subnet) (option_copied e.reservation)
     ++ chosen_text m e.decision.answer e.ranks

@@ -6,7 +6,8 @@ use Rattle.kd_classes.specs.declared.definition.ClassDef.{ClassDef}
 use Rattle.kd_classes.specs.declared.option_list.OptionData.{OptionData}
 use Rattle.kd_config.specs.Configuration.{Configuration}
 use Rattle.kd_config.specs.declared.subnet.Subnet.{Subnet}
-use Rattle.kd_lease.specs.Given.{class_options, mask_option, options_of_pool}
+use Rattle.kd_lease.specs.Given.{class_options, mask_option, options_of_pool, reserved_options}
+use Rattle.kd_options.specs.Message.{Seen}
 use Rattle.kd_explain.specs.declared.origins.Origin.{Origin}
 use Rattle.kd_explain.specs.declared.origins.Origin.TheVariants as origins
 
@@ -23,27 +24,31 @@ abbrev pub class_has : List ClassDef → List (List ℕ) → ℕ → ℕ → Boo
 class_has classes names code i = has_code code (options_of_class classes names i)
 
 -- the options of an origin at an address of a subnet, for a message with these class names
-abbrev pub options_from : Configuration → Subnet → List (List ℕ) → ℕ → Origin → List OptionData
-options_from config s names a origins.Pool = options_of_pool s.pools a
-options_from config s names a origins.Subnet = s.options
-options_from config s names a (origins.Class i) = options_of_class config.classes names i
-options_from config s names a origins.Global = config.options
-options_from config s names a origins.Mask = mask_option s.prefix ∷ []
+abbrev pub options_from : Configuration → Subnet → List (List ℕ) → Seen → ℕ → Origin
+    → List OptionData
+options_from config s names m a origins.Reservation = reserved_options m s
+options_from config s names m a origins.Pool = options_of_pool s.pools a
+options_from config s names m a origins.Subnet = s.options
+options_from config s names m a (origins.Class i) = options_of_class config.classes names i
+options_from config s names m a origins.Global = config.options
+options_from config s names m a origins.Mask = mask_option s.prefix ∷ []
 
 -- the position of an origin in the order of precedence, if there are `count` classes
 abbrev pub origin_place : ℕ → Origin → ℕ
-origin_place count origins.Pool = 0
-origin_place count origins.Subnet = 1
-origin_place count (origins.Class i) = 2 + i
-origin_place count origins.Global = 2 + count
-origin_place count origins.Mask = 3 + count
+origin_place count origins.Reservation = 0
+origin_place count origins.Pool = 1
+origin_place count origins.Subnet = 2
+origin_place count (origins.Class i) = 3 + i
+origin_place count origins.Global = 3 + count
+origin_place count origins.Mask = 4 + count
 
 -- an origin has the code, and no origin before it does; or none has it
-abbrev pub IsOrigin : Configuration → Subnet → List (List ℕ) → ℕ → ℕ → Option Origin → Type 0
-IsOrigin config s names a code None =
-    (other : Origin) → has_code code (options_from config s names a other) ≡ false
-IsOrigin config s names a code (Some origin) =
-    (has_code code (options_from config s names a origin) ≡ true)
+abbrev pub IsOrigin : Configuration → Subnet → List (List ℕ) → Seen → ℕ → ℕ → Option Origin
+    → Type 0
+IsOrigin config s names m a code None =
+    (other : Origin) → has_code code (options_from config s names m a other) ≡ false
+IsOrigin config s names m a code (Some origin) =
+    (has_code code (options_from config s names m a origin) ≡ true)
     × ((other : Origin)
     → origin_place (length config.classes) other < origin_place (length config.classes) origin
-    → has_code code (options_from config s names a other) ≡ false)
+    → has_code code (options_from config s names m a other) ≡ false)

@@ -56,6 +56,7 @@ origin_class (Some class) = name_text class.name
 -- where a configured option comes from
 abbrev pub origin_word : List ClassDef → Option Origin → List ℕ
 origin_word classes None = codes "-"
+origin_word classes (Some origins.Reservation) = codes "reservation"
 origin_word classes (Some origins.Pool) = codes "pool"
 origin_word classes (Some origins.Subnet) = codes "subnet"
 origin_word classes (Some (origins.Class i)) = codes "class " ++ origin_class (slice_get classes i)
@@ -67,30 +68,33 @@ origin_word classes (Some origins.Mask) = codes "mask"
 abbrev pub required_word : ℕ → List ℕ
 required_word code = if code == 61 || code == 82 then codes "message" else codes "reply"
 
--- where a configured option comes from at an address of the subnet that serves the message
-abbrev pub IsConfiguredWord : Configuration → List (List ℕ) → Option Subnet → ℕ → ℕ → List ℕ
-    → Type 0
-IsConfiguredWord config names None a code word = word ≡ codes "-"
-IsConfiguredWord config names (Some s) a code word =
-    (origin : Option Origin) × IsOrigin config s names a code origin
+-- where a configured option of the reply to a message comes from at an address of the subnet that
+-- serves the message
+abbrev pub IsConfiguredWord : Configuration → Seen → List (List ℕ) → Option Subnet → ℕ → ℕ
+    → List ℕ → Type 0
+IsConfiguredWord config m names None a code word = word ≡ codes "-"
+IsConfiguredWord config m names (Some s) a code word =
+    (origin : Option Origin) × IsOrigin config s names m a code origin
     × (word ≡ origin_word config.classes origin)
 
 -- where an option comes from, by whether the reply must have it
-abbrev pub IsSourceWord : Configuration → List (List ℕ) → Option Subnet → ℕ → Bool → ℕ → List ℕ
-    → Type 0
-IsSourceWord config names s a true code word = word ≡ required_word code
-IsSourceWord config names s a false code word = IsConfiguredWord config names s a code word
+abbrev pub IsSourceWord : Configuration → Seen → List (List ℕ) → Option Subnet → ℕ → Bool → ℕ
+    → List ℕ → Type 0
+IsSourceWord config m names s a true code word = word ≡ required_word code
+IsSourceWord config m names s a false code word = IsConfiguredWord config m names s a code word
 
 -- whether the written reply has an option
 abbrev pub room_word : Option (List ℕ) → List ℕ
 room_word None = codes ": no room\n"
 room_word (Some value) = codes "\n"
 
--- the line of an option at an address; the written reply reads as this message
-pub record IsSentLine (config : Configuration) (e : Explanation) (a : ℕ) (reply : Seen)
+-- the line of an option of the reply to a message at an address; the written reply reads as the
+-- second message
+pub record IsSentLine (config : Configuration) (m : Seen) (e : Explanation) (a : ℕ) (reply : Seen)
     (item : Item) (line : List ℕ) : Type 0 where
   pub source : List ℕ
-  pub from : IsSourceWord config e.names (option_copied e.subnet) a item.obligatory item.code source
+  pub from : IsSourceWord config m e.names (option_copied e.subnet) a item.obligatory item.code
+      source
   pub is : line
       ≡ codes "option " ++ decimal item.code ++ codes " " ++ bytes_text item.value ++ codes " "
       ++ source ++ room_word (value_of item.code reply.options)
@@ -118,7 +122,7 @@ pub record AreOptionsOf (config : Configuration) (m : Seen) (e : Explanation) (p
   pub reply : Seen
   pub reads : Reads (written plan) reply
   pub lines : AreOptionLines
-      (IsSentLine config e (options_address plan.kind plan.yiaddr m.header.ciaddr) reply)
+      (IsSentLine config m e (options_address plan.kind plan.yiaddr m.header.ciaddr) reply)
       plan.reply.items text
 
 -- the lines of how a message ends: the reply and its options, or why there is none

@@ -80,8 +80,8 @@ fn address_in(plan: &Plan, message: &Message<'_>) -> u32
 fn put_items(out: &mut String, sources: &Sources<'_>, items: &[Item]) -> Result<(), AllocError>
     ensures { OnOk result ((text : List ℕ)
         × AreOptionLines (IsSentLine sources.now.scene.now.config.now
-        sources.now.scene.now.explanation.now sources.now.address sources.now.reply.now) items.now
-        text
+        sources.now.scene.now.message.now sources.now.scene.now.explanation.now
+        sources.now.address sources.now.reply.now) items.now text
         × (string_bytes out.new ≡ string_bytes out.old ++ text)) }
 {
     for item in items {
@@ -92,8 +92,9 @@ fn put_items(out: &mut String, sources: &Sources<'_>, items: &[Item]) -> Result<
 
 fn put_item(out: &mut String, sources: &Sources<'_>, item: &Item) -> Result<(), AllocError>
     ensures { OnOk result ((line : List ℕ)
-        × IsSentLine sources.now.scene.now.config.now sources.now.scene.now.explanation.now
-        sources.now.address sources.now.reply.now item.now line
+        × IsSentLine sources.now.scene.now.config.now sources.now.scene.now.message.now
+        sources.now.scene.now.explanation.now sources.now.address sources.now.reply.now item.now
+        line
         × (string_bytes out.new ≡ string_bytes out.old ++ line)) }
 {
     put_value(sources.scene.alloc, out, item)?;
@@ -126,7 +127,8 @@ fn put_room(out: &mut String, value: Option<&[u8]>) -> Result<(), AllocError>
 // Prints where an option comes from: the rules for replies, the message, or the configuration.
 fn put_source(out: &mut String, sources: &Sources<'_>, item: &Item) -> Result<(), AllocError>
     ensures { OnOk result ((word : List ℕ)
-        × IsSourceWord sources.now.scene.now.config.now sources.now.scene.now.explanation.now.names
+        × IsSourceWord sources.now.scene.now.config.now sources.now.scene.now.message.now
+        sources.now.scene.now.explanation.now.names
         (option_copied sources.now.scene.now.explanation.now.subnet) sources.now.address
         item.now.obligatory item.now.code word
         × (string_bytes out.new ≡ string_bytes out.old ++ word)) }
@@ -151,7 +153,7 @@ fn required_by(code: u8) -> &'static str
 fn put_configured(out: &mut String, sources: &Sources<'_>, code: u8) -> Result<(), AllocError>
     ensures { OnOk result ((word : List ℕ)
         × IsConfiguredWord sources.now.scene.now.config.now
-        sources.now.scene.now.explanation.now.names
+        sources.now.scene.now.message.now sources.now.scene.now.explanation.now.names
         (option_copied sources.now.scene.now.explanation.now.subnet) sources.now.address code word
         × (string_bytes out.new ≡ string_bytes out.old ++ word)) }
 {
@@ -170,12 +172,20 @@ fn put_given(
 ) -> Result<(), AllocError>
     ensures { OnOk result ((word : List ℕ)
         × IsConfiguredWord sources.now.scene.now.config.now
-        sources.now.scene.now.explanation.now.names (Some subnet.now) sources.now.address code word
+        sources.now.scene.now.message.now sources.now.scene.now.explanation.now.names
+        (Some subnet.now) sources.now.address code word
         × (string_bytes out.new ≡ string_bytes out.old ++ word)) }
 {
     let scene = sources.scene;
     let names = &scene.explanation.names;
-    let origin = origin_of(scene.config, subnet, names, sources.address, code);
+    let origin = origin_of(
+        scene.config,
+        subnet,
+        names,
+        scene.message,
+        sources.address,
+        code,
+    );
     put_origin(scene.alloc, out, scene.config.classes(), origin)
 }
 
@@ -189,6 +199,7 @@ fn put_origin(
         ≡ string_bytes out.old ++ origin_word classes.now origin) }
 {
     match origin {
+        Some(Origin::Reservation) => out.push_str("reservation"),
         Some(Origin::Pool) => out.push_str("pool"),
         Some(Origin::Subnet) => out.push_str("subnet"),
         Some(Origin::Class(index)) => {

@@ -4,13 +4,16 @@ ghost use Rattle.kd_explain.specs.Origins.{IsOrigin, class_has, has_code};
 
 use kd_classes::{ClassDef, Classes, OptionData};
 use kd_config::{Config, Subnet};
-use kd_lease::pool_options;
+use kd_lease::{pool_options, reservation_options};
 use kd_machine::Held;
+use kd_options::Message;
 
 /// Where a configured option comes from (Kea Administrator Reference Manual, chapters DHCPv4 Server
 /// Configuration and Client Classification).
 #[derive(Clone, Copy, PartialEq, Eq)]
 pub enum Origin {
+    /// The client's reservation.
+    Reservation,
     /// The pool that has the address.
     Pool,
     /// The subnet.
@@ -23,18 +26,23 @@ pub enum Origin {
     Mask,
 }
 
-/// Returns where the option with a code comes from at an address, in host order, of a subnet, for a
-/// member of the classes with these names. This is the first of pool, subnet, classes in order,
-/// options of all replies and mask that has the code; `None` if none has it.
+/// Returns where the option with a code comes from at an address, in host order, of a subnet, for
+/// the client of a message, which is a member of the classes with these names. This is the first of
+/// reservation, pool, subnet, classes in order, options of all replies and mask that has the code;
+/// `None` if none has it.
 pub fn origin_of(
     config: &Config,
     subnet: &Subnet,
     names: &Held,
+    message: &Message<'_>,
     address: u32,
     code: u8,
 ) -> Option<Origin>
-    ensures { IsOrigin config.now subnet.now names.now address code result }
+    ensures { IsOrigin config.now subnet.now names.now message.now address code result }
 {
+    if lists(reservation_options(message, subnet), code) {
+        return Some(Origin::Reservation);
+    }
     if lists(pool_options(subnet, address), code) {
         return Some(Origin::Pool);
     }

@@ -1,12 +1,12 @@
 ghost use Rattle.std.specs.Prelude.{◌≡◌, ◌++◌, OnOk, codes, option_copied, string_bytes};
 ghost use Rattle.std.specs.List.{flat_map};
-ghost use Rattle.kd_lease.specs.SubnetOf.{message_place};
-ghost use Rattle.kd_explain.specs.FoundLines.{class_word, key_word, passed_words, place_line, place_word, reservation_line, reserved_line, sought_line, sought_lines, unasked_line};
+ghost use Rattle.kd_lease.specs.SubnetOf.{is_by_relay, message_place};
+ghost use Rattle.kd_explain.specs.FoundLines.{class_word, elsewhere_words, key_word, passed_words, place_line, place_word, reservation_line, reserved_line, sought_line, sought_lines, unasked_line};
 
 use crate::text::Scene;
 use crate::words::put_name;
 use kd_config::{Identity, Reservation, Subnet};
-use kd_lease::{place_of, serves};
+use kd_lease::{comes_by_relay, is_at, place_of, serves};
 use kd_machine::Held;
 use kd_text::{put_address, put_prefix};
 use kd_wire::{Bytes, Header};
@@ -44,9 +44,11 @@ fn place_source(header: &Header) -> &'static str
     }
 }
 
-// Where a message comes from, and the names of the classes that it is in. These choose its subnet.
+// Where a message comes from, whether that is a relay that a subnet names, and the names of the
+// classes that it is in. These choose its subnet.
 #[derive(Clone, Copy)]
 struct Sought<'a> {
+    by_relay: bool,
     place: u32,
     names: &'a Held,
 }
@@ -55,12 +57,16 @@ struct Sought<'a> {
 // message; and those after it.
 pub(crate) fn put_subnets(out: &mut String, scene: &Scene<'_>) -> Result<(), AllocError>
     ensures { OnOk result (string_bytes out.new ≡ string_bytes out.old
-        ++ sought_lines (message_place scene.now.config.now.server scene.now.message.now.header)
+        ++ sought_lines (is_by_relay scene.now.config.now scene.now.explanation.now.names
+        scene.now.message.now.header)
+        (message_place scene.now.config.now.server scene.now.message.now.header)
         scene.now.explanation.now.names scene.now.config.now.subnets) }
 {
+    let names = &scene.explanation.names;
     let sought = Sought {
+        by_relay: comes_by_relay(scene.config, names, scene.message.header()),
         place: place_of(scene.config.server(), scene.message.header()),
-        names: &scene.explanation.names,
+        names,
     };
     put_sought(scene.alloc, out, sought, scene.config.subnets())
 }
@@ -73,15 +79,15 @@ fn put_sought(
     subnets: &[Subnet],
 ) -> Result<(), AllocError>
     ensures { OnOk result (string_bytes out.new ≡ string_bytes out.old
-        ++ sought_lines sought.entry.place sought.entry.names.now subnets.now) }
+        ++ sought_lines sought.entry.by_relay sought.entry.place sought.entry.names.now subnets.now) }
 {
     let mut left = subnets;
     while let [subnet, rest @ ..] = left {
-        if serves(sought.place, sought.names, subnet) {
+        if serves(sought.by_relay, sought.place, sought.names, subnet) {
             put_serving(out, subnet)?;
             return put_unasked(out, rest);
         }
-        put_passed(alloc, out, sought.place, subnet)?;
+        put_passed(alloc, out, sought, subnet)?;
         left = rest;
     }
     out.push_str("subnet - none serves\n")?;
@@ -124,15 +130,15 @@ fn put_one_unasked(out: &mut String, subnet: &Subnet) -> Result<(), AllocError>
 fn put_passed(
     alloc: Global,
     out: &mut String,
-    place: u32,
+    sought: Sought<'_>,
     subnet: &Subnet,
 ) -> Result<(), AllocError>
-    ensures { OnOk result (string_bytes out.new
-        ≡ string_bytes out.old ++ sought_line subnet.now (passed_words place subnet.now)) }
+    ensures { OnOk result (string_bytes out.new ≡ string_bytes out.old ++ sought_line subnet.now
+        (passed_words sought.entry.by_relay sought.entry.place subnet.now)) }
 {
     out.push_str("subnet ")?;
     put_prefix(out, subnet.prefix.address, subnet.prefix.length)?;
-    put_why_passed(alloc, out, place, subnet)?;
+    put_why_passed(alloc, out, sought, subnet)?;
     out.push_str("\n")
 }
 
@@ -141,19 +147,29 @@ fn put_passed(
 fn put_why_passed(
     alloc: Global,
     out: &mut String,
-    place: u32,
+    sought: Sought<'_>,
     subnet: &Subnet,
 ) -> Result<(), AllocError>
-    ensures { OnOk result (string_bytes out.new
-        ≡ string_bytes out.old ++ passed_words place subnet.now) }
+    ensures { OnOk result (string_bytes out.new ≡ string_bytes out.old
+        ++ passed_words sought.entry.by_relay sought.entry.place subnet.now) }
 {
-    if subnet.prefix.contains(place) {
+    if is_at(sought.by_relay, sought.place, subnet) {
         out.push_str(" passed over: the client is not in class ")?;
         put_class_name(alloc, out, &subnet.class)
     } else {
         out.push_str(" passed over: ")?;
-        put_address(out, place)?;
-        out.push_str(" is outside")
+        put_address(out, sought.place)?;
+        out.push_str(elsewhere(sought.by_relay))
+    }
+}
+
+fn elsewhere(by_relay: bool) -> &'static str
+    ensures { result.now ≡ elsewhere_words by_relay }
+{
+    if by_relay {
+        " is no relay of it"
+    } else {
+        " is outside"
     }
 }
 

@@ -20,7 +20,7 @@ use Rattle.kd_json.specs.Pool.{has_pool_keys, pool_addresses, pool_of, pool_rang
 use Rattle.kd_json.specs.Reservation.{has_reservation_keys, identity_given, one_identity, reservation_of}
 use Rattle.kd_config.specs.Rules.{may_stand}
 use Rattle.kd_json.specs.Settings.{has_dhcp4_keys, has_root_keys, whole_settings, server_given, dhcp4_settings, settings_with, times_given}
-use Rattle.kd_config.specs.Sound.{AreOptions, IsClass, IsFrom, IsIdentity, IsPool, IsPrefix, IsRange, IsSound, IsSubnet}
+use Rattle.kd_config.specs.Sound.{AreOptions, IsClass, IsFrom, IsIdentity, IsPool, IsPrefix, IsRange, IsReservation, IsSound, IsSubnet}
 use Rattle.kd_json.specs.Subnet.{has_subnet_keys, subnet_prefix, subnet_of, subnet_with}
 use Rattle.kd_json.specs.Values.{address_given, hex_bytes_in, bytes_if_given, number_if_given, text_if_given}
 use Rattle.kd_json.specs.declared.objects.class.ClassEntry.{ClassEntry}
@@ -85,13 +85,20 @@ given_sound d identity e =
     (λ b h. meant_bytes 255 (get (codes "client-id") d) b (subst (λ o. bytes_if_given 1 255 (get (codes "client-id") d) ≡ Some o) h client.is))
     client.gives
 
-reservation_sound : (d : Data) (reservation : Reservation) → reservation_of d ≡ Some reservation → IsIdentity reservation.identity
+-- no options are options
+no_options : AreOptions []
+no_options = record { few = omega arith; each = tt; own = tt }
+
+reservation_sound : (d : Data) (reservation : Reservation) → reservation_of d ≡ Some reservation → IsReservation reservation
 unfolding reservation_of
 reservation_sound d reservation e =
     let keys = passed (has_reservation_keys d) _ reservation e in
     let identity = came_from (identity_given d) _ reservation keys.1 in
     let address = came_from (option_and_then address_given (get (codes "ip-address") d)) _ reservation identity.gives in
-    subst (λ r. IsIdentity r.identity) (some_is _ reservation address.gives) (given_sound d identity.first identity.is)
+    subst IsReservation (some_is _ reservation address.gives) (record {
+      identity = given_sound d identity.first identity.is;
+      options = no_options;
+    })
 
 pub prefix_in_sound : (d : Data) (prefix : Prefix) → subnet_prefix d ≡ Some prefix → IsPrefix prefix
 unfolding subnet_prefix
@@ -110,10 +117,11 @@ subnet_sound d subnet e =
     let value = came_from (get (codes "subnet") d) subnet_prefix prefix.first prefix.is in
     subst IsSubnet (some_is _ subnet options.gives) (record {
       prefix = prefix_in_sound value.first prefix.first value.gives;
+      few_relays = omega arith;
       few_pools = few_meant 64 pool_of (get (codes "pools") d) pools.first pools.is;
       pools = each_meant IsPool pool_of pool_sound 64 (get (codes "pools") d) pools.first pools.is;
       few_reservations = few_meant 4096 reservation_of (get (codes "reservations") d) reservations.first reservations.is;
-      reservations = each_meant (λ r. IsIdentity r.identity) reservation_of reservation_sound 4096 (get (codes "reservations") d) reservations.first reservations.is;
+      reservations = each_meant IsReservation reservation_of reservation_sound 4096 (get (codes "reservations") d) reservations.first reservations.is;
       options = options_sound (get (codes "option-data") d) options.first options.is;
     })
 

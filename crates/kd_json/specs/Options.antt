@@ -1,5 +1,5 @@
 -- Option data: the codes and values of options (RFC 2132) that the server sends.
-use Rattle.std.specs.Prelude.{ℕ, Bool, not, nat_eq, List, [], ◌∷◌, ◌++◌, codes, Option, Some}
+use Rattle.std.specs.Prelude.{ℕ, Bool, false, not, nat_eq, List, [], ◌∷◌, ◌++◌, codes, Option, Some}
 use Rattle.std.specs.List.{list_any}
 use Rattle.serde_json.specs.Data.{Data, Items, no_items, item}
 use Rattle.serde_json.specs.Find.{as_bool, get}
@@ -32,7 +32,7 @@ option_after earlier d = do
   _ ← must (not (code_among code earlier))
   value ← get (codes "data") d >>= hex_bytes_in 0 1024
   is_text ← get (codes "csv-format") d >>= as_bool
-  only_if (not is_text) (record { code = code; value = value })
+  only_if (not is_text) (record { code = code; value = value; always = false })
 
 -- earlier options, and after them those that these items describe
 abbrev pub options_behind : List OptionData → Items → Option (List OptionData)

@@ -19,7 +19,7 @@ use Rattle.kd_lease.specs.Laws.{EndsAreFounded, IsFounded}
 use Rattle.kd_lease.specs.Plan.{Outcome, ReplyOption}
 use Rattle.kd_lease.specs.Plan.Outcome.{planned, quiet}
 use Rattle.kd_lease.specs.Rules.{Does, IsReplyOf, IsSilent, Makes, client_has, declined_row, ending, released_row, renewable, rule_of, serving_subnet}
-use Rattle.kd_lease.specs.SubnetOf.{message_place, served_by, subnet_serving}
+use Rattle.kd_lease.specs.SubnetOf.{is_by_relay, message_place, served_by, subnet_serving}
 use Rattle.kd_lease.specs.declared.plan.PlanKind.{PlanKind}
 use Rattle.kd_lease.specs.declared.plan.PlanKind.TheVariants as kinds
 use Rattle.kd_lease.specs.declared.rule.Ending.{Ending}
@@ -145,7 +145,7 @@ module _ (founded : EndsAreFounded) (q : Asking) (sound : IsSound q.config) (set
   unfolding subnet_serving
   serving s is =
       subst (λ (o : Option Subnet). IfSome o StandsIn) is
-      (find-each StandsIn (served_by (message_place q.config.server q.message.header) q.names) q.config.subnets (all_stand q.config.subnets sound.subnets.together sound.subnets.each))
+      (find-each StandsIn (served_by (is_by_relay q.config q.names q.message.header) (message_place q.config.server q.message.header) q.names) q.config.subnets (all_stand q.config.subnets sound.subnets.together sound.subnets.each))
 
   -- an address that is offered
   offer_32 : (type : MessageType) (about : Option ℕ) → IsFounded q type about ends.Offer → Makes q about ends.Offer set outcome → Assigns32 outcome

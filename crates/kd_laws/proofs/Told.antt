@@ -1,6 +1,6 @@
 -- The options of a reply are in order, and what they say of the type, the server, the client and
 -- the lifetime.
-use Rattle.std.proofs.Common.{◌≡◌, ℕ, zero, suc, ◌+◌, ◌≤◌, inl, inr, Bool, true, false, List, [], ◌∷◌, ◌++◌, Option, None, Some, refl, ap, subst, ◌∙◌, arith, append_assoc, eqb-true}
+use Rattle.std.proofs.Common.{◌≡◌, ℕ, zero, suc, ◌+◌, ◌≤◌, inl, inr, Bool, true, false, ◌||◌, List, [], ◌∷◌, ◌++◌, Option, None, Some, refl, ap, subst, ◌∙◌, arith, append_assoc, eqb-true}
 use Rattle.std.specs.Prelude.{◌==◌, IfSome, filter, if◌then◌else◌}
 use Rattle.std.specs.List.{AllByRecursion, find, flat_map, range_with_len}
 use Rattle.std.proofs.lemmas.Bool.{both_ways}
@@ -9,18 +9,19 @@ use Rattle.kd_classes.specs.declared.definition.ClassDef.{ClassDef}
 use Rattle.kd_classes.specs.declared.option_list.OptionData.{OptionData}
 use Rattle.kd_config.specs.Apart.{has}
 use Rattle.kd_config.specs.Configuration.{Configuration}
-use Rattle.kd_config.specs.Sound.{AreOptions, IsClass, IsOption, IsPool, IsSound, IsSubnet}
+use Rattle.kd_config.specs.Sound.{AreOptions, IsClass, IsOption, IsPool, IsReservation, IsSound, IsSubnet}
 use Rattle.kd_config.specs.declared.pool.Pool.{Pool}
+use Rattle.kd_config.specs.declared.reservation.Reservation.{Reservation}
 use Rattle.kd_config.specs.declared.subnet.Subnet.{Subnet}
 use Rattle.kd_config.specs.declared.times.Times.{Times}
-use Rattle.kd_lease.specs.Choice.{Asking}
+use Rattle.kd_lease.specs.Choice.{Asking, is_from}
 use Rattle.kd_lease.specs.Client.{wants_option}
-use Rattle.kd_lease.specs.Given.{class_options, configured, configured_at, configured_options, given, mask_option, options_in, options_of_pool, value_in}
+use Rattle.kd_lease.specs.Given.{always_has, class_options, configured, configured_at, configured_options, given, mask_option, options_in, options_of_pool, options_reserved, reserved_options, value_in}
 use Rattle.kd_lease.specs.Plan.{ReplyOption}
 use Rattle.kd_lease.specs.ReplyOf.{obligatory, returned}
 use Rattle.kd_lease.specs.ReplyOptions.{configured_for, configured_in, plan_type, reply_options, times_in}
 use Rattle.kd_lease.specs.Rules.{serving_subnet}
-use Rattle.kd_lease.specs.SubnetOf.{message_place, served_by, subnet_serving}
+use Rattle.kd_lease.specs.SubnetOf.{is_by_relay, message_place, served_by, subnet_serving}
 use Rattle.kd_lease.specs.declared.plan.PlanKind.{PlanKind}
 use Rattle.kd_lease.specs.declared.plan.PlanKind.TheVariants as kinds
 use Rattle.kd_machine.specs.Parts.{is_held}
@@ -51,6 +52,11 @@ IsFree o = is_own o.code ≡ false
 options_free : (options : List OptionData) → AreOptions options → AllByRecursion IsFree options
 options_free options are = each_gives IsOption IsFree (λ o is. is.free) options are.each
 
+-- those of a reservation, if there is one
+reservation_free : (reservation : Option Reservation) → IfSome reservation IsReservation → AllByRecursion IsFree (options_reserved reservation)
+reservation_free None is = tt
+reservation_free (Some reservation) is = options_free reservation.options is.options
+
 -- those of a pool, if there is one
 pool_free : (pool : Option Pool) → IfSome pool IsPool → AllByRecursion IsFree (options_in pool)
 pool_free None is = tt
@@ -70,17 +76,20 @@ classes_free (class ∷ classes) names each =
     one_class (is_held class.name names) class (filter (λ c. is_held c.name names) classes) each.0.options (classes_free classes names each.1)
 
 -- all options that are given at an address of a subnet
-given_free : (config : Configuration) (s : Subnet) (names : List (List ℕ)) (address : ℕ) → IsSound config → IsSubnet s → AllByRecursion IsFree (given config s names address)
+given_free : (config : Configuration) (s : Subnet) (names : List (List ℕ)) (m : Seen) (address : ℕ) → IsSound config → IsSubnet s → AllByRecursion IsFree (given config s names m address)
 unfolding given
-given_free config s names address sound is =
+given_free config s names m address sound is =
+    let own = reserved_options m s in
     let pool = options_of_pool s.pools address in
     let classes = class_options config.classes names in
+    let is_client : Reservation → Bool = λ reservation. is_from m reservation.identity in
     let has_it : Pool → Bool = λ p. has p.range address in
+    let reserved = reservation_free (find is_client s.reservations) (find-each IsReservation is_client s.reservations is.reservations) in
     let pooled = pool_free (find has_it s.pools) (find-each IsPool has_it s.pools is.pools) in
-    each-append IsFree (pool ++ s.options ++ classes ++ config.options) (mask_option s.prefix ∷ [])
-    (each-append IsFree (pool ++ s.options ++ classes) config.options
-    (each-append IsFree (pool ++ s.options) classes
-    (each-append IsFree pool s.options pooled (options_free s.options is.options))
+    each-append IsFree (own ++ pool ++ s.options ++ classes ++ config.options) (mask_option s.prefix ∷ [])
+    (each-append IsFree (own ++ pool ++ s.options ++ classes) config.options
+    (each-append IsFree (own ++ pool ++ s.options) classes
+    (each-append IsFree (own ++ pool) s.options (each-append IsFree own pool reserved pooled) (options_free s.options is.options))
     (classes_free config.classes names sound.classes.each))
     (options_free config.options sound.options))
     (refl, tt)
@@ -95,9 +104,9 @@ free_code code (o ∷ options) each = by (o.code == code) refl (free_code code o
 
 -- the configured option of one code
 at_code : (m : Seen) (options : List OptionData) (code : ℕ) → AllByRecursion IsFree options → AreOrdered (code + 6) (code + 7) (configured_at m options code)
-at_code m options code each = by (value_in code options) (free_code code options each) (wants_option code m) where
-  by : (v : Option (List ℕ)) → IfSome v (λ value. is_own code ≡ false) → (asked : Bool) → AreOrdered (code + 6) (code + 7) (configured asked code v)
-  by None free asked = omega arith
+at_code m options code each = by (value_in code options) (free_code code options each) (wants_option code m || always_has code options) where
+  by : (v : Option (List ℕ)) → IfSome v (λ value. is_own code ≡ false) → (sent : Bool) → AreOrdered (code + 6) (code + 7) (configured sent code v)
+  by None free sent = omega arith
   by (Some value) free true =
       (omega (arith, place-free code free), (λ own. absurd (both_ways (is_own code) free own)), omega (arith, place-free code free))
   by (Some value) free false = omega arith
@@ -141,12 +150,12 @@ module _ (q : Asking) (sound : IsSound q.config) where
   -- the subnet that serves the message obeys the rules
   serving_sound : IfSome (serving_subnet q) IsSubnet
   unfolding subnet_serving
-  serving_sound = find-each IsSubnet (served_by (message_place q.config.server q.message.header) q.names) q.config.subnets sound.subnets.each
+  serving_sound = find-each IsSubnet (served_by (is_by_relay q.config q.names q.message.header) (message_place q.config.server q.message.header) q.names) q.config.subnets sound.subnets.each
 
   -- the configured options in a subnet, if there is one
   in_subnet_ordered : (s : Option Subnet) (address : ℕ) → IfSome s IsSubnet → AreOrdered 6 261 (configured_in q s address)
   in_subnet_ordered None address is = omega arith
-  in_subnet_ordered (Some s) address is = configured_ordered q.message (given q.config s q.names address) (given_free q.config s q.names address sound is)
+  in_subnet_ordered (Some s) address is = configured_ordered q.message (given q.config s q.names q.message address) (given_free q.config s q.names q.message address sound is)
 
   -- the configured options of a reply of each kind
   for_kind_ordered : (kind : PlanKind) (yiaddr : ℕ) → AreOrdered 6 261 (configured_for q kind yiaddr)

@@ -1,19 +1,17 @@
 -- The options that classes give, one class after another, and those that are sent, one code after another.
-use Rattle.std.proofs.Common.{◌≡◌, ℕ, ◌+◌, ◌-◌, ◌<◌, ◌≤◌, List, [], ◌∷◌, ◌++◌, Some, sym, ap, ◌∙◌, filter, length, map, true, slice_get, take, arith}
-use Rattle.std.specs.List.{flat_map, range_with_len}
+use Rattle.std.proofs.Common.{◌≡◌, ℕ, ◌+◌, ◌<◌, List, [], ◌∷◌, ◌++◌, false, Some, ap, ◌∙◌, filter, length, true, slice_get, take}
+use Rattle.std.specs.List.{flat_map}
 use Rattle.std.proofs.lemmas.Grind.{flat_map-append}
-use Rattle.std.proofs.lemmas.List.{append-nil, flat_map_more, take_more}
+use Rattle.std.proofs.lemmas.List.{append-nil, take_more}
 use Rattle.std.proofs.lemmas.List.Elements.{filter-append}
-use Rattle.std.proofs.lemmas.List.Folds.{flat_map-map}
-use Rattle.std.proofs.lemmas.List.FromFn.{map-range_with_len_more}
 use Rattle.std.proofs.lemmas.Option.{get_or_from_slice_get, slice_get_within}
 use Rattle.kd_classes.specs.declared.definition.ClassDef.{ClassDef}
 use Rattle.kd_classes.specs.declared.option_list.OptionData.{OptionData}
 use Rattle.kd_config.specs.Configuration.{Configuration}
 use Rattle.kd_config.specs.declared.subnet.Subnet.{Subnet}
 use Rattle.kd_machine.specs.Parts.{is_held}
-use Rattle.kd_lease.specs.Given.{class_options, given, prefix_mask, options_of_pool}
-use Rattle.kd_lease.specs.Plan.{ReplyOption}
+use Rattle.kd_lease.specs.Given.{class_options, given, prefix_mask, options_of_pool, reserved_options}
+use Rattle.kd_options.specs.Message.{Seen}
 
 class_options-append : (a b : List ClassDef) (names : List (List ℕ)) → class_options (a ++ b) names ≡ class_options a names ++ class_options b names
 class_options-append a b names =
@@ -32,8 +30,15 @@ more_classes classes names i class at =
     ∙ class_options-append (take i classes) (class ∷ []) names
 
 -- the options of a configuration, each list as it is found
-pub all_given : (config : Configuration) (subnet : Subnet) (names : List (List ℕ)) (address : ℕ) (pool own classes all : List OptionData) (mask : List ℕ)
-    → pool ≡ options_of_pool subnet.pools address → own ≡ subnet.options → classes ≡ class_options config.classes names → all ≡ config.options → mask ≡ prefix_mask subnet.prefix
-    → pool ++ own ++ classes ++ all ++ record { code = 1; value = mask } ∷ [] ≡ given config subnet names address
+pub all_given : (config : Configuration) (subnet : Subnet) (names : List (List ℕ)) (m : Seen) (address : ℕ) (classes all : List OptionData) (mask : List ℕ)
+    → classes ≡ class_options config.classes names → all ≡ config.options → mask ≡ prefix_mask subnet.prefix
+    → reserved_options m subnet ++ options_of_pool subnet.pools address ++ subnet.options ++ classes ++ all ++ record { code = 1; value = mask; always = false } ∷ [] ≡ given config subnet names m address
 unfolding given
-all_given config subnet names address pool own classes all mask p o c a m = λ i. p i ++ o i ++ c i ++ a i ++ record { code = 1; value = m i } ∷ []
+all_given config subnet names m address classes all mask c a k =
+    λ i. reserved_options m subnet ++ options_of_pool subnet.pools address ++ subnet.options ++ c i ++ a i ++ record { code = 1; value = k i; always = false } ∷ []
+
+-- the options that a subnet gives, each list as it is found
+pub all_of_subnet : (subnet : Subnet) (m : Seen) (address : ℕ) (reserved pool own : List OptionData)
+    → reserved ≡ reserved_options m subnet → pool ≡ options_of_pool subnet.pools address → own ≡ subnet.options
+    → reserved ++ pool ++ own ≡ reserved_options m subnet ++ options_of_pool subnet.pools address ++ subnet.options
+all_of_subnet subnet m address reserved pool own r p o = λ i. r i ++ p i ++ o i

@@ -6,6 +6,7 @@ pub mod Held
 pub mod Least
 pub mod Newest
 pub mod Passing
+pub mod Places
 pub mod Pools
 pub mod Records
 pub mod Reserved

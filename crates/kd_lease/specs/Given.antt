@@ -1,8 +1,8 @@
 -- The options that a configuration gives to a client (RFC 2132; Kea Administrator Reference Manual,
 -- chapters DHCPv4 Server Configuration and Client Classification): where they come from, in order
--- of precedence, and which of them a reply sends (RFC 2132 section 9.8).
-use Rattle.std.specs.Prelude.{ℕ, ◌-◌, ◌^◌, Bool, false, ◌==◌, List, [], ◌∷◌, ◌++◌, filter, Option, Some, None, option_map, if◌then◌else◌}
-use Rattle.std.specs.List.{find, flat_map, range_with_len}
+-- of precedence, and which of them a reply sends (RFC 2132 section 9.8; in Kea, always-send).
+use Rattle.std.specs.Prelude.{ℕ, ◌-◌, ◌^◌, Bool, false, ◌&&◌, ◌||◌, ◌==◌, List, [], ◌∷◌, ◌++◌, filter, Option, Some, None, option_map, if◌then◌else◌}
+use Rattle.std.specs.List.{find, flat_map, list_any, range_with_len}
 use Rattle.byteorder.specs.Endian.{big_bytes}
 use Rattle.kd_classes.specs.declared.definition.ClassDef.{ClassDef}
 use Rattle.kd_classes.specs.declared.option_list.OptionData.{OptionData}
@@ -11,11 +11,22 @@ use Rattle.kd_config.specs.Apart.{has}
 use Rattle.kd_config.specs.Configuration.{Configuration}
 use Rattle.kd_config.specs.declared.pool.Pool.{Pool}
 use Rattle.kd_config.specs.declared.prefix.Prefix.{Prefix}
+use Rattle.kd_config.specs.declared.reservation.Reservation.{Reservation}
 use Rattle.kd_config.specs.declared.subnet.Subnet.{Subnet}
 use Rattle.kd_machine.specs.Parts.{is_held}
 use Rattle.kd_options.specs.Message.{Seen}
+use Rattle.kd_lease.specs.Choice.{client_reservation}
 use Rattle.kd_lease.specs.Client.{wants_option}
 use Rattle.kd_lease.specs.Plan.{ReplyOption}
+
+-- the options of a reservation, if there is one
+abbrev pub options_reserved : Option Reservation → List OptionData
+options_reserved None = []
+options_reserved (Some reservation) = reservation.options
+
+-- the options of the first reservation of a subnet that is for the client of a message
+abbrev pub reserved_options : Seen → Subnet → List OptionData
+reserved_options m s = options_reserved (client_reservation m s)
 
 -- the options of a pool, if there is one
 abbrev pub options_in : Option Pool → List OptionData
@@ -38,14 +49,14 @@ prefix_mask prefix = big_bytes 4 (2 ^ 32 - prefix_size prefix.length)
 
 -- the mask as an option
 abbrev pub mask_option : Prefix → OptionData
-mask_option prefix = record { code = 1; value = prefix_mask prefix }
+mask_option prefix = record { code = 1; value = prefix_mask prefix; always = false }
 
--- the options given at an address of a subnet to a client in the classes with these names; for each
--- code, the first in this list takes precedence
-unfoldable pub given : Configuration → Subnet → List (List ℕ) → ℕ → List OptionData
-given config subnet names address =
-    options_of_pool subnet.pools address ++ subnet.options ++ class_options config.classes names
-    ++ config.options ++ mask_option subnet.prefix ∷ []
+-- the options given at an address of a subnet to the client of a message, which is in the classes
+-- with these names; for each code, the first in this list takes precedence
+unfoldable pub given : Configuration → Subnet → List (List ℕ) → Seen → ℕ → List OptionData
+given config subnet names m address =
+    reserved_options m subnet ++ options_of_pool subnet.pools address ++ subnet.options
+    ++ class_options config.classes names ++ config.options ++ mask_option subnet.prefix ∷ []
 
 -- the value of a code: that of the first option that has it
 abbrev pub value_in : ℕ → List OptionData → Option (List ℕ)
@@ -56,14 +67,20 @@ value_in code options =
 abbrev pub optional : ℕ → List ℕ → List ReplyOption
 optional code value = record { code = code; value = value; obligatory = false } ∷ []
 
--- a configured option: it is sent if it has a value and the client asks for it
-abbrev pub configured : Bool → ℕ → Option (List ℕ) → List ReplyOption
-configured asked code None = []
-configured asked code (Some value) = if asked then optional code value else []
+-- one of these options has the code, and is sent to clients that do not ask for it
+abbrev pub always_has : ℕ → List OptionData → Bool
+always_has code options = list_any (λ option. option.always && option.code == code) options
 
--- the configured option with a code, for the reply to a message
+-- a configured option: it is sent if it has a value, and it is to be sent
+abbrev pub configured : Bool → ℕ → Option (List ℕ) → List ReplyOption
+configured sent code None = []
+configured sent code (Some value) = if sent then optional code value else []
+
+-- the configured option with a code, for the reply to a message: it is sent if the client asks for
+-- it, or if any of the options with the code is sent to all
 abbrev pub configured_at : Seen → List OptionData → ℕ → List ReplyOption
-configured_at m options code = configured (wants_option code m) code (value_in code options)
+configured_at m options code =
+    configured (wants_option code m || always_has code options) code (value_in code options)
 
 -- the configured options of the reply to a message, in ascending order of code
 unfoldable pub configured_options : Seen → List OptionData → List ReplyOption

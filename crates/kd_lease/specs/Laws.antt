@@ -1,5 +1,7 @@
 -- What is true of the rules for every configuration, table, message and time.
-use Rattle.std.specs.Prelude.{◌≡◌, ℕ, true, false, ◌⊎◌, List, Option, Some, None, IsSomeAnd}
+use Rattle.std.specs.Prelude.{◌≡◌, ℕ, true, false, ◌&&◌, ◌⊎◌, List, [], Option, Some, None, IsSomeAnd}
+use Rattle.std.specs.List.{AllByRecursion, find}
+use Rattle.kd_config.specs.Address.{has_address}
 use Rattle.kd_config.specs.Configuration.{Configuration}
 use Rattle.kd_config.specs.declared.subnet.Subnet.{Subnet}
 use Rattle.kd_options.specs.Kind.{type_number}
@@ -8,12 +10,14 @@ use Rattle.kd_options.specs.declared.kind.MessageType.{MessageType}
 use Rattle.kd_options.specs.declared.kind.MessageType.TheVariants as types
 use Rattle.kd_rows.specs.Table.{belongs_to, row_at}
 use Rattle.kd_rows.specs.declared.row.Row.{Row}
+use Rattle.kd_wire.specs.declared.header.Header.{Header}
 use Rattle.kd_lease.specs.Change.{Changes, Decides}
 use Rattle.kd_lease.specs.Choice.{Asking, Choice, Rank, has_rank, live_row, usable}
 use Rattle.kd_lease.specs.Client.{kind_of}
 use Rattle.kd_lease.specs.Plan.{Outcome, ReplyOption}
 use Rattle.kd_lease.specs.Plan.Outcome.{planned}
 use Rattle.kd_lease.specs.Rules.{Does, IsAbout, Makes, Sets, ending, held_at, renewable, rule_of, serving_subnet}
+use Rattle.kd_lease.specs.SubnetOf.{class_admits, message_place, subnet_serving}
 use Rattle.kd_lease.specs.declared.plan.PlanKind.TheVariants as kinds
 use Rattle.kd_lease.specs.declared.rule.Ending.{Ending}
 use Rattle.kd_lease.specs.declared.rule.Ending.TheVariants as ends
@@ -100,3 +104,13 @@ OneChange =
     (config : Configuration) (rows : List Row) (m : Seen) (now : ℕ) (new other : List Row)
     (got its : Outcome) → Changes config rows m now new got → Changes config rows m now other its
     → (new ≡ other) × (got ≡ its)
+
+-- where no subnet names a relay, the first subnet serves whose prefix has the place of the message,
+-- and whose class is held
+abbrev pub ServesByPrefix : Type 0
+ServesByPrefix =
+    (config : Configuration) (names : List (List ℕ)) (h : Header)
+    → AllByRecursion (λ s. s.relays ≡ []) config.subnets
+    → subnet_serving config names h
+    ≡ find (λ s. has_address s.prefix (message_place config.server h) && class_admits s.class names)
+    config.subnets

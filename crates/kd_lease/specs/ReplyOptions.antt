@@ -37,7 +37,8 @@ times_in kinds.Nak times = []
 -- the configured options at an address of a subnet, if there is a subnet
 abbrev pub configured_in : Asking → Option Subnet → ℕ → List ReplyOption
 configured_in q None address = []
-configured_in q (Some s) address = configured_options q.message (given q.config s q.names address)
+configured_in q (Some s) address =
+    configured_options q.message (given q.config s q.names q.message address)
 
 -- the configured options of a reply: those at the address that it assigns, or at the address that
 -- the client has; a NAK has none

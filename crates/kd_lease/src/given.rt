@@ -1,13 +1,14 @@
-ghost use Rattle.std.specs.Prelude.{◌≡◌, ◌++◌, ◌∷◌, [], IfOk, List, OnOk, Some, map};
+ghost use Rattle.std.specs.Prelude.{◌≡◌, ◌||◌, ◌++◌, ◌∷◌, [], IfOk, List, OnOk, Some, map};
 ghost use Rattle.kd_classes.specs.declared.option_list.OptionData.{OptionData};
 ghost use Rattle.kd_lease.specs.Client.{wants_option};
-ghost use Rattle.kd_lease.specs.Given.{class_options, configured, configured_options, given, prefix_mask};
+ghost use Rattle.kd_lease.specs.Given.{class_options, configured, configured_options, given, options_of_pool, prefix_mask, reserved_options};
 ghost use Rattle.kd_lease.specs.Plan.{option_of_item};
 ghost use Rattle.kd_lease.specs.Valuing.{HasValues, HaveCodes};
 ghost use Rattle.kd_wire.specs.Area.{IsCode};
 
 use crate::client::asks_for;
 use crate::reply::put_optional;
+use crate::reservation::reservation_options;
 use crate::subnet::pool_options;
 use crate::values::{Coded, Values};
 use kd_classes::{ClassDef, Classes};
@@ -16,8 +17,9 @@ use kd_machine::Held;
 use kd_options::{Item, Message};
 use std::alloc::{AllocError, Global};
 
-// Appends the options that the configuration gives, at an address of a subnet, to a client in the
-// classes with these names; only those that the client asks for.
+// Appends the options that the configuration gives, at an address of a subnet, to the client of a
+// message, which is in the classes with these names; only those that the client asks for or that
+// are sent to all.
 pub(crate) fn put_given(
     alloc: Global,
     list: &mut Vec<Item>,
@@ -28,16 +30,34 @@ pub(crate) fn put_given(
     address: u32,
 ) -> Result<(), AllocError>
     ensures { OnOk result (map option_of_item list.new.items ≡ map option_of_item list.old.items
-        ++ configured_options message.now (given config.now subnet.now names.now address)) }
+        ++ configured_options message.now
+        (given config.now subnet.now names.now message.now address)) }
 {
     let mask = mask_of(subnet.prefix);
-    let mut values = Values::new(alloc);
-    values.put_all(pool_options(subnet, address))?;
-    values.put_all(subnet.options.as_slice())?;
+    let mut values = subnet_values(alloc, subnet, message, address)?;
     put_class_options(&mut values, config.classes(), names)?;
     values.put_all(config.options())?;
-    values.put(1, &mask)?;
+    values.put(1, &mask, false)?;
     put_values(alloc, list, message, &values)
+}
+
+// Returns the values that a subnet gives to the client of a message at an address: those of the
+// client's reservation, of the pool and of the subnet.
+fn subnet_values<'a>(
+    alloc: Global,
+    subnet: &'a Subnet,
+    message: &Message<'_>,
+    address: u32,
+) -> Result<Values<'a>, AllocError>
+    ensures { IfOk result (λ values. HasValues values.list.items
+        (reserved_options message.now subnet.now ++ options_of_pool subnet.now.pools address
+        ++ subnet.now.options)) }
+{
+    let mut values = Values::new(alloc);
+    values.put_all(reservation_options(message, subnet))?;
+    values.put_all(pool_options(subnet, address))?;
+    values.put_all(subnet.options.as_slice())?;
+    Ok(values)
 }
 
 // Appends the options of the classes whose names are held.
@@ -73,8 +93,8 @@ fn put_options_of<'a>(
     Ok(())
 }
 
-// Appends the options with these values that the client asks for, in ascending order of their
-// codes.
+// Appends the options with these values that the client asks for or that are sent to all, in
+// ascending order of their codes.
 fn put_values(
     alloc: Global,
     list: &mut Vec<Item>,
@@ -92,7 +112,7 @@ fn put_values(
     Ok(())
 }
 
-// Appends a configured option if the client asks for it.
+// Appends a configured option if the client asks for it or if it is sent to all.
 fn put_configured(
     alloc: Global,
     list: &mut Vec<Item>,
@@ -102,11 +122,15 @@ fn put_configured(
     requires { IsCode coded.code }
     ensures { OnOk result (map option_of_item list.new.items
         ≡ map option_of_item list.old.items
-        ++ configured (wants_option coded.entry.code message.now) coded.entry.code
-        (Some coded.entry.value.now)) }
+        ++ configured (wants_option coded.entry.code message.now || coded.entry.always)
+        coded.entry.code (Some coded.entry.value.now)) }
 {
-    let Coded { code, value } = coded;
-    if asks_for(message, code) {
+    let Coded {
+        code,
+        value,
+        always,
+    } = coded;
+    if asks_for(message, code) || always {
         put_optional(alloc, list, code, value)
     } else {
         Ok(())

@@ -1,6 +1,6 @@
 //! What is true of the rules, whatever the program does. Each law is the contract of a function
 //! that does nothing.
-ghost use Rattle.kd_lease.specs.Laws.{EndsAreFounded, EndsDecide, HeldHasNoRank, HeldIsNotGiven, HeldIsNotUsable, NakSetsNone, OneAnswer, OneChange, SetsNow};
+ghost use Rattle.kd_lease.specs.Laws.{EndsAreFounded, EndsDecide, HeldHasNoRank, HeldIsNotGiven, HeldIsNotUsable, NakSetsNone, OneAnswer, OneChange, ServesByPrefix, SetsNow};
 
 /// A row that a message sets has the time of the message as its time of change.
 pub fn sets_now()
@@ -10,6 +10,12 @@ pub fn sets_now()
 /// A NAK sets no row.
 pub fn nak_sets_none()
     ensures { NakSetsNone }
+{}
+
+/// Where no subnet names a relay, a message is served by the first subnet whose prefix has its
+/// place, and whose class is held.
+pub fn serves_by_prefix()
+    ensures { ServesByPrefix }
 {}
 
 /// An address has no rank for a client if its row is not the client's and has not ended, whether it

@@ -2,8 +2,10 @@ ghost use Rattle.std.specs.Prelude.{◌≡◌};
 ghost use Rattle.std.specs.List.{list_any};
 ghost use Rattle.std.specs.Option.{option_copied};
 ghost use Rattle.kd_lease.specs.Choice.{reserved_anywhere, reserved_in, client_reservation, address_reserved};
+ghost use Rattle.kd_lease.specs.Given.{reserved_options};
 ghost use Rattle.kd_lease.specs.Seeking.{reserves};
 
+use kd_classes::OptionData;
 use kd_config::{Config, Reservation, Subnet};
 use kd_options::Message;
 use kd_options::codes::OPTION_CLIENT_IDENTIFIER;
@@ -27,6 +29,17 @@ pub fn reservation_of<'a>(message: &Message<'_>, subnet: &'a Subnet) -> Option<&
     subnet
         .reservations
         .of_client(message.mac(), message.option(OPTION_CLIENT_IDENTIFIER))
+}
+
+/// Returns the options of the first reservation of a subnet for the client of a message; none if
+/// there is no such reservation.
+pub fn reservation_options<'a>(message: &Message<'_>, subnet: &'a Subnet) -> &'a [OptionData]
+    ensures { result.now ≡ reserved_options message.now subnet.now }
+{
+    match reservation_of(message, subnet) {
+        Some(reservation) => reservation.options.as_slice(),
+        None => &[],
+    }
 }
 
 /// Reports whether an address, in host order, is reserved in a subnet of the configuration.

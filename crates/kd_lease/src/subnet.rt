@@ -1,8 +1,8 @@
-ghost use Rattle.std.specs.Prelude.{◌≡◌, option_copied};
-ghost use Rattle.std.specs.List.{find};
+ghost use Rattle.std.specs.Prelude.{◌≡◌, ◌==◌, option_copied, true};
+ghost use Rattle.std.specs.List.{find, list_any};
 ghost use Rattle.kd_config.specs.Apart.{has};
 ghost use Rattle.kd_lease.specs.Given.{options_of_pool};
-ghost use Rattle.kd_lease.specs.SubnetOf.{class_admits, message_place, served_by, subnet_serving};
+ghost use Rattle.kd_lease.specs.SubnetOf.{class_admits, has_place, is_by_relay, message_place, served_by, subnet_serving};
 
 use kd_classes::OptionData;
 use kd_config::{Config, Pool, Subnet};
@@ -10,16 +10,36 @@ use kd_machine::Held;
 use kd_wire::Header;
 
 /// Returns the first subnet that serves a message with this header and with classes of these names:
-/// its prefix contains the place of the message, and the class that it requires, if any, is held.
+/// the message's relay is one of its own, or else, if no subnet has that, its prefix contains the
+/// place of the message; and the class that it requires, if any, is held.
 #[tactic(auto, unfolding(crate::specs::SubnetOf::subnet_serving))]
 pub fn subnet_of<'a>(config: &'a Config, names: &Held, header: &Header) -> Option<&'a Subnet>
     ensures { option_copied result ≡ subnet_serving config.now names.now header.now }
 {
     let place = place_of(config.server(), header);
+    let by_relay = comes_by_relay(config, names, header);
     config
         .subnets()
         .iter()
-        .find(|subnet| serves(place, names, subnet))
+        .find(|subnet| serves(by_relay, place, names, subnet))
+}
+
+/// Reports whether a message comes from a relay that a subnet names as its own, if the client may
+/// be served there. Then the subnets' relays count, and not their prefixes.
+pub fn comes_by_relay(config: &Config, names: &Held, header: &Header) -> bool
+    ensures { result ≡ is_by_relay config.now names.now header.now }
+{
+    header.giaddr != 0 && has_relay_among(header.giaddr, names, config.subnets())
+}
+
+// Reports whether one of these subnets has the relay, and a client in the classes with these names
+// may be served there.
+fn has_relay_among(relay: u32, names: &Held, subnets: &[Subnet]) -> bool
+    ensures { result ≡ list_any (served_by true relay names.now) subnets.now }
+{
+    subnets
+        .iter()
+        .any(|subnet| serves(true, relay, names, subnet))
 }
 
 /// Returns the place a message comes from, as an address in host order: its relay, else its
@@ -37,11 +57,30 @@ pub fn place_of(server: u32, header: &Header) -> u32
 }
 
 /// Reports whether the subnet serves a place, an address in host order, and a client in the classes
-/// with these names: its prefix contains the place, and the class that it requires, if any, is held.
-pub fn serves(place: u32, names: &Held, subnet: &Subnet) -> bool
-    ensures { result ≡ served_by place names.now subnet.now }
+/// with these names: it has the place, and the class that it requires, if any, is held.
+pub fn serves(by_relay: bool, place: u32, names: &Held, subnet: &Subnet) -> bool
+    ensures { result ≡ served_by by_relay place names.now subnet.now }
 {
-    subnet.prefix.contains(place) && admits(subnet, names)
+    is_at(by_relay, place, subnet) && admits(subnet, names)
+}
+
+/// Reports whether the subnet has a place, an address in host order: as a relay of its own, or else
+/// in its prefix.
+pub fn is_at(by_relay: bool, place: u32, subnet: &Subnet) -> bool
+    ensures { result ≡ has_place by_relay place subnet.now }
+{
+    if by_relay {
+        names_relay(place, subnet.relays.as_slice())
+    } else {
+        subnet.prefix.contains(place)
+    }
+}
+
+// Reports whether an address is among those of relays.
+fn names_relay(address: u32, relays: &[u32]) -> bool
+    ensures { result ≡ list_any (λ relay. relay == address) relays.now }
+{
+    relays.iter().any(|relay| *relay == address)
 }
 
 // Reports whether the class that the subnet requires is held; true if it requires none.

@@ -69,7 +69,11 @@ fn put_option(
     value: &[u8],
 ) -> Result<(), AllocError> {
     let value = Bytes::own(Vec::from_slice(alloc, value)?);
-    options.push(OptionData { code, value })?;
+    options.push(OptionData {
+        code,
+        value,
+        always: false,
+    })?;
     Ok(())
 }
 

@@ -68,6 +68,7 @@ fn option_behind(
         Some(false) => Ok(OptionData {
             code,
             value: value_of,
+            always: false,
         }),
         _ => Err(bad_value(alloc, at, "csv-format")),
     }

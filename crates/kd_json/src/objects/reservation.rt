@@ -9,6 +9,7 @@ use crate::objects::faults::SettingsFault;
 use crate::objects::lists::EntryReader;
 use crate::objects::values::{address_in, bytes_or_none, check_keys};
 use crate::rules::place::{Place, bad_value, missing};
+use kd_classes::OptionList;
 use kd_config::{Identity, Reservation};
 use kd_wire::Bytes;
 use serde_json::Value;
@@ -32,7 +33,11 @@ impl EntryReader for ReservationReader {
         check_reservation(alloc, value, at)?;
         let identity = identity_in(alloc, value, at)?;
         match value.get("ip-address").and_then(address_in) {
-            Some(address) => Ok(Reservation { identity, address }),
+            Some(address) => Ok(Reservation {
+                identity,
+                address,
+                options: OptionList::own(Vec::new(alloc)),
+            }),
             None => Err(bad_value(alloc, at, "ip-address")),
         }
     }

@@ -7,4 +7,4 @@ use Rattle.kd_explain.proofs.option_lines.put_items.Given as goal
 abbrev pub invariant-loop-item : goal.invariant-loop-item
 invariant-loop-item l =
     (text : List ℕ) × (string_bytes l.out ≡ string_bytes l.initial.out ++ text)
-    × Leads (IsSentLine l.sources.scene.now.config.now l.sources.scene.now.explanation.now l.sources.address l.sources.reply.now) l.items text (drop l.item-index l.items)
+    × Leads (IsSentLine l.sources.scene.now.config.now l.sources.scene.now.message.now l.sources.scene.now.explanation.now l.sources.address l.sources.reply.now) l.items text (drop l.item-index l.items)

@@ -1,4 +1,4 @@
-use Rattle.std.proofs.Common.{◌++◌, [], ◌<◌, ap, sym, ◌∙◌, map, length, Some, arith, subst, slice_index_or}
+use Rattle.std.proofs.Common.{◌++◌, ◌||◌, [], ◌<◌, false, ap, sym, ◌∙◌, map, length, Some, arith, subst, slice_index_or}
 use Rattle.std.specs.List.{flat_map}
 use Rattle.std.proofs.lemmas.List.{take_all}
 use Rattle.kd_lease.specs.Client.{wants_option}
@@ -11,7 +11,7 @@ use Rattle.kd_lease.proofs.given.put_values.Goals as goal
 
 pub put_configured-requires : goal.put_configured-requires
 put_configured-requires c =
-    let other : Coded = record { code = 0; value = record { ref_ptr = (0, 0); now = [] } } in
+    let other : Coded = record { code = 0; value = record { ref_ptr = (0, 0); now = [] }; always = false } in
     let less : c.loop-entry.entry-index < length c.args.values.now.list.items = omega (arith, c.loop-entry-test.true, ap length c.deref-entry-items.ensures.value) in
     subst
     (λ items. IsCode (slice_index_or items c.loop-entry.entry-index other).code)
@@ -25,4 +25,4 @@ returns c = λ options h.
     let all = take_all c.loop-entry.entry-index list (omega (arith, c.loop-entry-test.false, ap length c.deref-entry-items.ensures.value)) in
     c.loop-entry.invariant
     ∙ ap (λ entries. map option_of_item c.args.list.now.items ++ entries)
-    (ap (flat_map (λ (e : Coded). configured (wants_option e.code m) e.code (Some e.value.now))) all ∙ all_entries m list options h)
+    (ap (flat_map (λ (e : Coded). configured (wants_option e.code m || e.always) e.code (Some e.value.now))) all ∙ all_entries m list options h)

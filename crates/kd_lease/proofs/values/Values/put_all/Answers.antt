@@ -9,8 +9,8 @@ loop-option-preserved c = λ before h.
     let options = c.args.options.now in
     let i = c.loop-option.option-index in
     let option = c.option-item.result in
-    let given : OptionData = record { code = option.code; value = c.as_slice.result.now } in
-    let same : given ≡ option = ap (λ value. record { code = option.code; value = value }) c.as_slice.ensures in
+    let given : OptionData = record { code = option.code; value = c.as_slice.result.now; always = option.always } in
+    let same : given ≡ option = ap (λ value. record { code = option.code; value = value; always = option.always }) c.as_slice.ensures in
     let more : take (i + 1) options ≡ take i options ++ option ∷ [] =
     take_more options i option c.loop-option-test.true ∙ ap (λ o. take i options ++ o ∷ []) (sym c.option-item.is) in
     subst

@@ -1,0 +1,14 @@
+use Rattle.std.proofs.Common.{◌++◌, [], subst}
+use Rattle.kd_lease.specs.Valuing.{HasValues}
+use Rattle.kd_lease.proofs.Giving.{all_of_subnet}
+use Rattle.kd_lease.proofs.given.subnet_values.Goals as goal
+
+pub returns : goal.returns
+returns c =
+    let reserved = c.reservation_options.result.now in
+    let pool = c.pool_options.result.now in
+    let one = c.in_ok-put_all.ensures [] c.new-values.ensures in
+    let two = c.in_ok-put_all-2.ensures reserved one in
+    let three = c.in_ok-put_all-3.ensures (reserved ++ pool) two in
+    subst (λ options. HasValues c.put_all-3.new.self.list.items options)
+    (all_of_subnet c.args.subnet.now c.args.message.now c.args.address reserved pool c.as_slice.result.now c.reservation_options.ensures c.pool_options.ensures c.as_slice.ensures) three
