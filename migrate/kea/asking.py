@@ -208,6 +208,7 @@ class Relay:
             self.send(f"{name} that moved", 3, hardware, giaddr, more=option(50, IPv4Address(ELSEWHERE).packed))
         self.send(name, 8, hardware, giaddr, address or still)
         self.send(f"{name} that asks for no option", 1, hardware, giaddr, asked=())
+        self.send(f"{name} that asks for little", 1, hardware, giaddr, asked={1})
 
     def close(self):
         for each in self.sockets:

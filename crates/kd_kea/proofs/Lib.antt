@@ -11,6 +11,7 @@ pub mod Inside
 pub mod Fields
 pub mod Scopes
 pub mod Sounds
+pub mod SoundNames
 pub mod Parts
 pub mod SoundParts
 pub mod SoundKea
@@ -18,5 +19,6 @@ pub mod Whole
 pub mod Noted
 pub mod NoUnknown
 pub mod WorkedNotes
+pub mod WorkedNames
 pub mod Shares
 pub mod WorkedTimes

@@ -15,25 +15,28 @@ use Rattle.kd_json.proofs.Came.{came_from, passed, passed_only, seen_from}
 use Rattle.kd_json.specs.FirstFault.{path_below}
 use Rattle.kd_json.specs.Class.{class_name_in}
 use Rattle.kd_json.specs.Lists.{all_of, items_or_none, list_of}
+use Rattle.kd_json.specs.Reservation.{identity_given}
 use Rattle.kd_json.specs.Steps.{must}
 use Rattle.kd_json.specs.Subnet.{subnet_prefix}
-use Rattle.kd_json.specs.Values.{number_if_given, text_if_given}
+use Rattle.kd_json.specs.Values.{address_given, number_if_given, text_if_given}
 use Rattle.kd_json.specs.declared.objects.settings.Settings.{Settings}
 use Rattle.kd_kea.specs.Class.{kea_class_options, kea_class}
 use Rattle.kd_kea.specs.Definitions.{are_apart, kea_definition, kea_definitions, kea_known, standard_records, usual_vendor}
 use Rattle.kd_kea.specs.Kea.{kea_settings}
+use Rattle.kd_kea.specs.HostName.{has_bare_names, host_name, host_options, may_be_named, server_has_bare_names}
 use Rattle.kd_kea.specs.Hooks.{hooks_are_quiet}
 use Rattle.kd_kea.specs.Keys.{KeyUse, Plain, each_key, flag, fraction, has_only_keys, is_plain, key_use, keys_are_read, may_have, no_list, served, skipped, usual, whole}
-use Rattle.kd_kea.specs.Notes.{KeyNote, ObjectNotes, above_by, around_of, beside_note, calculated_notes, class_notes, data_notes, definition_note, definition_notes, each_described, flag_note, have_refused, hook_kind, hook_notes, host_notes, interface_notes, is_not_failed, is_served_if_given, item_notes, items_of, kea_address, kea_below, kea_beside, kea_notes, kea_value, key_notes, keys_in, kind_of_note, usable_definitions, lease_notes, lifetime_in, limit_notes, list_notes, listed_notes, lists_by, member_keys, note_below, note_unless, notes_at, notes_of_each, number_note, object_notes, off_note, off_notes, option_notes, or_wrong, own_notes, pool_notes, rebind_in, relay_notes, renew_in, repeated_notes, repeated_shares, right_definitions, root_notes, server_lists, server_notes, server_times, server_values, service_notes, share_notes, subnet_lists, subnet_notes, subnet_own, subnet_values, text_note, time_note, all_times, unused_share, unused_shares, usual_note, value_notes, with_first}
+use Rattle.kd_kea.specs.Notes.{KeyNote, ObjectNotes, above_by, around_of, beside_note, calculated_notes, class_notes, data_notes, definition_note, definition_notes, each_described, flag_note, have_refused, hook_kind, hook_notes, host_notes, interface_notes, is_not_failed, is_served_if_given, item_notes, items_of, kea_address, kea_below, kea_beside, kea_notes, kea_value, key_notes, keys_in, kind_of_note, usable_definitions, lease_notes, lifetime_in, limit_notes, list_notes, listed_notes, lists_by, member_keys, name_notes, note_below, note_on_name, note_unless, notes_at, notes_of_each, number_note, object_notes, off_note, off_notes, option_notes, or_wrong, own_notes, pool_notes, rebind_in, relay_notes, renew_in, repeated_notes, repeated_shares, right_definitions, root_notes, server_lists, server_notes, server_times, server_values, service_notes, share_notes, subnet_lists, subnet_notes, subnet_own, subnet_values, text_note, time_note, all_times, unused_share, unused_shares, usual_note, value_notes, with_first}
 use Rattle.kd_kea.specs.Options.{is_served_space, kea_entry, kea_options, server_address}
 use Rattle.kd_kea.specs.Parts.{parts_of_all}
 use Rattle.kd_kea.specs.Pool.{kea_pool, kea_range}
 use Rattle.kd_kea.specs.Reservation.{kea_reservation}
 use Rattle.kd_kea.specs.Settings.{finds_reservations, has_server_form, kea_dhcp4, kea_root, kea_settings_with, turns_nothing_on}
-use Rattle.kd_kea.specs.Subnet.{has_subnet_form, is_at_server, kea_subnet, kea_subnet_with, names_no_relay, stand_beside}
+use Rattle.kd_kea.specs.Relay.{kea_relay, relays_of}
+use Rattle.kd_kea.specs.Subnet.{has_subnet_form, is_at_server, kea_subnet, kea_subnet_with, stand_beside}
 use Rattle.kd_kea.specs.Tables.{class_keys, data_keys, definition_keys, host_keys, pool_keys, relay_keys, root_keys, server_keys, subnet_keys}
 use Rattle.kd_kea.specs.Times.{are_in_order, are_shares, share_key, times_key, has_one_lifetime, has_usual_shares, is_asked_for, kea_times, repeats_shares, repeats_times, shares_given, usual_rebind, usual_renew}
-use Rattle.kd_kea.specs.Values.{flag_given, flag_or, is_plain_if_given, text_otherwise, unless_empty}
+use Rattle.kd_kea.specs.Values.{flag_given, flag_or, is_plain_if_given, is_whole_if_given, text_otherwise, unless_empty}
 use Rattle.kd_kea.specs.declared.notes.NoteKind.{NoteKind}
 use Rattle.kd_kea.specs.declared.notes.NoteKind.TheVariants.{Skipped, Unknown, Wrong}
 use Rattle.kd_kea.specs.declared.notes.around.Around.{Around}
@@ -280,6 +283,7 @@ record Fits (above : Above) (around : Around) : Type 0 where
   address : around.address ≡ Some above.server
   times : around.times ≡ Some above.times
   outside : around.outside ≡ Some above.outside
+  bare : around.bare ≡ above.bare
   calculated : around.calculated ≡ Some above.calculated
   shares : around.shares ≡ above.shares
   lifetime : around.lifetime ≡ Some above.times.lifetime
@@ -377,10 +381,10 @@ times_known d calculated times f e =
       rebind = bind_is given calculated _ rebind.first f (bind_is (lifetime_in d) lifetime.first _ rebind.first lifetime.is rebind.is);
     })
 
-around_fits : (server : Option ℕ) (d : Data) (above : Above) → kea_address server d ≡ Some above.server → all_times d ≡ Some above.times → HasTimes d above.times → flag_given (get (codes "calculate-tee-times") d) ≡ Some above.calculated → flag_given (get (codes "reservations-out-of-pool") d) ≡ Some above.outside → shares_given d ≡ above.shares
+around_fits : (server : Option ℕ) (d : Data) (above : Above) → kea_address server d ≡ Some above.server → all_times d ≡ Some above.times → HasTimes d above.times → flag_given (get (codes "calculate-tee-times") d) ≡ Some above.calculated → flag_given (get (codes "reservations-out-of-pool") d) ≡ Some above.outside → shares_given d ≡ above.shares → server_has_bare_names d ≡ above.bare
     → Fits above (around_of server d)
 unfolding around_of
-around_fits server d above e given times f g s = record { address = e; times = given; outside = g; calculated = f; shares = s; lifetime = times.lifetime; renew = times.renew; rebind = times.rebind }
+around_fits server d above e given times f g s b = record { address = e; times = given; outside = g; bare = b; calculated = f; shares = s; lifetime = times.lifetime; renew = times.renew; rebind = times.rebind }
 
 above_known : (above : Above) (around : Around) → Fits above around → above_by around ≡ Some above
 unfolding above_by
@@ -389,7 +393,8 @@ above_known above around fits =
     (bind_is around.times above.times _ above fits.times
     (bind_is around.calculated above.calculated _ above fits.calculated
     (bind_is around.outside above.outside _ above fits.outside
-    (ap (λ (s : Shares). Some (record { server = above.server; times = above.times; calculated = above.calculated; shares = s; outside = above.outside })) fits.shares))))
+    (ap (λ (s : Shares). Some (record { server = above.server; times = above.times; calculated = above.calculated; shares = s; outside = above.outside; bare = around.bare })) fits.shares
+    ∙ ap (λ (b : Bool). Some (record { server = above.server; times = above.times; calculated = above.calculated; shares = above.shares; outside = above.outside; bare = b })) fits.bare))))
 
 below_known : (given : Option Above) (above : Above) (known : List Definition) (d : Data) (subnet : Subnet) → given ≡ Some above → kea_subnet above known d ≡ Some subnet → kea_below given known d ≡ Some tt
 below_known given above known d subnet e f =
@@ -508,11 +513,37 @@ pool_pass known d pool path e =
     (none_in_both keyed of_range (own_pass pool_keys path d keys.0) (right (get (codes "pool") d >>= kea_range) range.first path (codes "pool") range.is))
     (options_pass false known d options.first path options.is))
 
-host_pass : NoneRefused kea_reservation host_notes
+-- the options of a reservation
+record HostPass (known : List Definition) (bare : Bool) (path : List ℕ) (d : Data) : Type 0 where
+  name : have_refused (name_notes bare path d) ≡ false
+  options : have_refused (option_notes false known path d) ≡ false
+
+host_options_pass : (known : List Definition) (bare : Bool) (path : List ℕ) (d : Data) (options : List OptionData) → host_options known bare d ≡ Some options → HostPass known bare path d
+unfolding host_options
+host_options_pass known bare path d options e =
+    let name = came_from (host_name (get (codes "hostname") d)) _ options e in
+    let may = passed (may_be_named bare name.first) _ options name.gives in
+    let own = came_from (kea_options false known (get (codes "option-data") d)) _ options may.1 in
+    record {
+      name = subst (λ o. have_refused (note_on_name bare o path) ≡ false) (sym name.is) (unless_none (may_be_named bare name.first) Unknown path (codes "hostname") may.0);
+      options = options_pass false known d own.first path own.is;
+    }
+
+host_pass : (known : List Definition) (bare : Bool) → NoneRefused (kea_reservation known bare) (host_notes known bare)
 unfolding kea_reservation host_notes
-host_pass d r path e =
+host_pass known bare d r path e =
     let keys = passed (keys_are_read host_keys d) _ r e in
-    object_none (kea_reservation d) r path d (own_notes host_keys path d) e (is_object host_keys d keys.0) (own_pass host_keys path d keys.0)
+    let hardware = passed (is_whole_if_given (get (codes "hw-address") d)) _ r keys.1 in
+    let client = passed (is_whole_if_given (get (codes "client-id") d)) _ r hardware.1 in
+    let identity = came_from (identity_given d) _ r client.1 in
+    let address = came_from (get (codes "ip-address") d >>= address_given) _ r identity.gives in
+    let options = came_from (host_options known bare d) _ r address.gives in
+    let given = host_options_pass known bare path d options.first options.is in
+    let keyed = own_notes host_keys path d in
+    let of_name = name_notes bare path d in
+    object_none (kea_reservation known bare d) r path d (keyed ++ of_name ++ option_notes false known path d) e (is_object host_keys d keys.0)
+    (none_in_both (keyed ++ of_name) (option_notes false known path d)
+    (none_in_both keyed of_name (own_pass host_keys path d keys.0) given.name) given.options)
 
 class_pass : (known : List Definition) → NoneRefused (kea_class known) (class_notes known)
 unfolding kea_class kea_class_options class_notes
@@ -536,15 +567,16 @@ class_pass known d class path e =
     (definitions_pass true d own.first path own.is))
     (subst (λ (its : List Definition). have_refused (option_notes false (its ++ known) path d) ≡ false) (sym (right_all true d own.first own.is)) (options_pass false (own.first ++ known) d options.first path own.gives)))
 
-relay_pass : (path : List ℕ) (value : Option Data) → names_no_relay value ≡ true → have_refused (value_notes relay_notes path value) ≡ false
-unfolding relay_notes
-relay_pass path None e = refl
-relay_pass path (Some d) e = object_none (Some (tt {0})) (tt {0}) path d (own_notes relay_keys path d) refl (is_object relay_keys d e) (own_pass relay_keys path d e)
+relay_pass : (path : List ℕ) (value : Option Data) (relays : List ℕ) → relays_of value ≡ Some relays → have_refused (value_notes relay_notes path value) ≡ false
+unfolding relay_notes kea_relay
+relay_pass path None relays e = refl
+relay_pass path (Some d) relays e =
+    let keys = passed (keys_are_read relay_keys d) _ relays e in
+    object_none (kea_relay d) relays path d (own_notes relay_keys path d) e (is_object relay_keys d keys.0) (own_pass relay_keys path d keys.0)
 
 -- what a value with the form of a subnet has
 record HasSubnetForm (above : Above) (d : Data) : Type 0 where
   keys : keys_are_read subnet_keys d ≡ true
-  relay : names_no_relay (get (codes "relay") d) ≡ true
   times : repeats_times above.calculated above.shares above.times d ≡ Some tt
   id : is_some (number_if_given 1 4294967294 1 (get (codes "id") d)) ≡ true
 
@@ -553,44 +585,47 @@ unfolding has_subnet_form
 subnet_form above d e =
     let keys = passed (keys_are_read subnet_keys d) _ tt e in
     let times = came_from (repeats_times above.calculated above.shares above.times d) _ tt keys.1 in
-    let relay = passed (names_no_relay (get (codes "relay") d)) _ tt times.gives in
-    let id = came_from (number_if_given 1 4294967294 1 (get (codes "id") d)) _ tt relay.1 in
-    record { keys = keys.0; relay = relay.0; times = times.is; id = ap is_some id.is }
+    let id = came_from (number_if_given 1 4294967294 1 (get (codes "id") d)) _ tt times.gives in
+    record { keys = keys.0; times = times.is; id = ap is_some id.is }
 
--- the lists of a subnet, without its relay
-record ListsPass (known : List Definition) (path : List ℕ) (d : Data) : Type 0 where
+-- the lists and the relay of a subnet
+record ListsPass (known : List Definition) (bare : Bool) (path : List ℕ) (d : Data) : Type 0 where
   options : have_refused (option_notes false known path d) ≡ false
+  relay : have_refused (notes_at relay_notes path (codes "relay") d) ≡ false
   pools : have_refused (listed_notes 64 (pool_notes known) (codes "pools") path d) ≡ false
-  hosts : have_refused (listed_notes 4096 host_notes (codes "reservations") path d) ≡ false
+  hosts : have_refused (listed_notes 4096 (host_notes known bare) (codes "reservations") path d) ≡ false
 
-subnet_lists_pass : (known : List Definition) (outside : Bool) (prefix : Prefix) (class : Option (List ℕ)) (path : List ℕ) (d : Data) (subnet : Subnet) → kea_subnet_with known outside prefix class d ≡ Some subnet → ListsPass known path d
+subnet_lists_pass : (known : List Definition) (bare outside : Bool) (prefix : Prefix) (class : Option (List ℕ)) (path : List ℕ) (d : Data) (subnet : Subnet) → kea_subnet_with known bare outside prefix class d ≡ Some subnet → ListsPass known bare path d
 unfolding kea_subnet_with
-subnet_lists_pass known outside prefix class path d subnet e =
-    let parts = came_from (list_of 64 (kea_pool known) (get (codes "pools") d) >>= parts_of_all) _ subnet e in
+subnet_lists_pass known bare outside prefix class path d subnet e =
+    let relays = came_from (relays_of (get (codes "relay") d)) _ subnet e in
+    let parts = came_from (list_of 64 (kea_pool known) (get (codes "pools") d) >>= parts_of_all) _ subnet relays.gives in
     let pools = came_from (list_of 64 (kea_pool known) (get (codes "pools") d)) parts_of_all parts.first parts.is in
-    let hosts = came_from (list_of 4096 kea_reservation (get (codes "reservations") d)) _ subnet parts.gives in
+    let hosts = came_from (list_of 4096 (kea_reservation known bare) (get (codes "reservations") d)) _ subnet parts.gives in
     let beside = passed (stand_beside outside parts.first hosts.first) _ subnet hosts.gives in
     let options = came_from (kea_options false known (get (codes "option-data") d)) _ subnet beside.1 in
     record {
       options = options_pass false known d options.first path options.is;
+      relay = relay_pass (path_below path (codes "relay")) (get (codes "relay") d) relays.first relays.is;
       pools = listed_pass 64 (kea_pool known) (pool_notes known) (pool_pass known) (codes "pools") path d pools.first pools.is;
-      hosts = listed_pass 4096 kea_reservation host_notes host_pass (codes "reservations") path d hosts.first hosts.is;
+      hosts = listed_pass 4096 (kea_reservation known bare) (host_notes known bare) (host_pass known bare) (codes "reservations") path d hosts.first hosts.is;
     }
 
-beside_pass : (given : Option Bool) (other : Bool) (known : List Definition) (outside : Bool) (prefix : Prefix) (class : Option (List ℕ)) (path : List ℕ) (d : Data) (subnet : Subnet) → given ≡ Some other → flag_or other (get (codes "reservations-out-of-pool") d) ≡ Some outside → kea_subnet_with known outside prefix class d ≡ Some subnet
-    → have_refused (beside_note given known path d) ≡ false
+beside_pass : (given : Option Bool) (other bare : Bool) (known : List Definition) (outside : Bool) (prefix : Prefix) (class : Option (List ℕ)) (path : List ℕ) (d : Data) (subnet : Subnet) → given ≡ Some other → flag_or other (get (codes "reservations-out-of-pool") d) ≡ Some outside → kea_subnet_with known (has_bare_names bare d) outside prefix class d ≡ Some subnet
+    → have_refused (beside_note given bare known path d) ≡ false
 unfolding kea_subnet_with kea_beside
-beside_pass given other known outside prefix class path d subnet e f g =
-    let pools = came_from (list_of 64 (kea_pool known) (get (codes "pools") d) >>= parts_of_all) _ subnet g in
-    let hosts = came_from (list_of 4096 kea_reservation (get (codes "reservations") d)) _ subnet pools.gives in
+beside_pass given other bare known outside prefix class path d subnet e f g =
+    let relays = came_from (relays_of (get (codes "relay") d)) _ subnet g in
+    let pools = came_from (list_of 64 (kea_pool known) (get (codes "pools") d) >>= parts_of_all) _ subnet relays.gives in
+    let hosts = came_from (list_of 4096 (kea_reservation known (has_bare_names bare d)) (get (codes "reservations") d)) _ subnet pools.gives in
     let beside = passed (stand_beside outside pools.first hosts.first) _ subnet hosts.gives in
-    let all_right : kea_beside given known d ≡ Some true =
+    let all_right : kea_beside given bare known d ≡ Some true =
     bind_is given other _ true e
     (bind_is (flag_or other (get (codes "reservations-out-of-pool") d)) outside _ true f
     (bind_is (list_of 64 (kea_pool known) (get (codes "pools") d) >>= parts_of_all) pools.first _ true pools.is
-    (bind_is (list_of 4096 kea_reservation (get (codes "reservations") d)) hosts.first _ true hosts.is
+    (bind_is (list_of 4096 (kea_reservation known (has_bare_names bare d)) (get (codes "reservations") d)) hosts.first _ true hosts.is
     (ap Some beside.0)))) in
-    unless_none (is_not_failed (kea_beside given known d)) Unknown path (codes "reservations-out-of-pool") (ap is_not_failed all_right)
+    unless_none (is_not_failed (kea_beside given bare known d)) Unknown path (codes "reservations-out-of-pool") (ap is_not_failed all_right)
 
 subnet_own_pass : (above : Above) (path : List ℕ) (d : Data) (prefix : Prefix) (class : Option (List ℕ)) (outside : Bool) → HasSubnetForm above d → (get (codes "subnet") d >>= subnet_prefix) ≡ Some prefix → text_if_given (get (codes "client-class") d) ≡ Some class → flag_or above.outside (get (codes "reservations-out-of-pool") d) ≡ Some outside
     → have_refused (subnet_own path d) ≡ false
@@ -617,15 +652,17 @@ subnet_pass above around fits known d subnet path e =
     let link = passed (is_at_server above.server prefix.first (get (codes "interface") d)) _ subnet prefix.gives in
     let class = came_from (text_if_given (get (codes "client-class") d)) _ subnet link.1 in
     let outside = came_from (flag_or above.outside (get (codes "reservations-out-of-pool") d)) _ subnet class.gives in
-    let lists = subnet_lists_pass known outside.first prefix.first (unless_empty class.first) path d subnet outside.gives in
+    let bare = has_bare_names around.bare d in
+    let listed = subst (λ (b : Bool). kea_subnet_with known (has_bare_names b d) outside.first prefix.first (unless_empty class.first) d ≡ Some subnet) (sym fits.bare) outside.gives in
+    let lists = subnet_lists_pass known bare outside.first prefix.first (unless_empty class.first) path d subnet listed in
     let keyed = own_notes subnet_keys path d in
     let values = subnet_values around path d in
     let own = subnet_own path d in
     let options = option_notes false known path d in
     let pools = listed_notes 64 (pool_notes known) (codes "pools") path d in
-    let hosts = listed_notes 4096 host_notes (codes "reservations") path d in
+    let hosts = listed_notes 4096 (host_notes known bare) (codes "reservations") path d in
     let relay = notes_at relay_notes path (codes "relay") d in
-    let beside = beside_note around.outside known path d in
+    let beside = beside_note around.outside around.bare known path d in
     object_none (kea_below (above_by around) known d) tt path d (keyed ++ values ++ own ++ beside ++ (options ++ pools ++ hosts ++ relay))
     (below_known (above_by around) above known d subnet (above_known above around fits) e) (is_object subnet_keys d form.keys)
     (none_in_both (keyed ++ values ++ own ++ beside) (options ++ pools ++ hosts ++ relay)
@@ -633,12 +670,12 @@ subnet_pass above around fits known d subnet path e =
     (none_in_both (keyed ++ values) own
     (none_in_both keyed values (own_pass subnet_keys path d form.keys) (subnet_values_pass above around fits path d prefix.first form.times prefix.is link.0))
     (subnet_own_pass above path d prefix.first class.first outside.first form prefix.is class.is outside.is))
-    (beside_pass around.outside above.outside known outside.first prefix.first (unless_empty class.first) path d subnet fits.outside outside.is outside.gives))
+    (beside_pass around.outside above.outside around.bare known outside.first prefix.first (unless_empty class.first) path d subnet fits.outside outside.is listed))
     (none_in_both (options ++ pools ++ hosts) relay
     (none_in_both (options ++ pools) hosts
     (none_in_both options pools lists.options lists.pools)
     lists.hosts)
-    (relay_pass (path_below path (codes "relay")) (get (codes "relay") d) form.relay)))
+    lists.relay))
 
 known_pass : (d : Data) (known : List Definition) (path : List ℕ) → kea_known (get (codes "option-def") d) ≡ Some known → have_refused (definition_notes false path d) ≡ false
 unfolding kea_known
@@ -676,12 +713,12 @@ server_pass server d settings path e =
     let known = came_from (kea_known (get (codes "option-def") d)) _ settings outside.gives in
     let options = came_from (kea_options true known.first (get (codes "option-data") d)) _ settings known.gives in
     let address = came_from (server_address options.first server) _ settings options.gives in
-    let above : Above = record { server = address.first; times = times.first; calculated = calculated.first; shares = shares_given d; outside = outside.first } in
+    let above : Above = record { server = address.first; times = times.first; calculated = calculated.first; shares = shares_given d; outside = outside.first; bare = server_has_bare_names d } in
     let around = around_of server d in
     let fits = around_fits server d above
     (address_known server d known.first options.first address.first known.is options.is address.is)
     (bind_is (flag_given (get (codes "calculate-tee-times") d)) calculated.first (λ (b : Bool). kea_times b d) times.first calculated.is times.is)
-    (times_known d calculated.first times.first calculated.is times.is) calculated.is outside.is refl in
+    (times_known d calculated.first times.first calculated.is times.is) calculated.is outside.is refl refl in
     let lists = lists_pass known.first options.first above around fits path d settings address.gives in
     let form = form_of d given.is in
     let keyed = own_notes server_keys path d in
@@ -761,9 +798,10 @@ pool_noted known path d e =
     let of_range = note_unless (is_some (get (codes "pool") d >>= kea_range)) Wrong path (codes "pool") in
     nothing_noted (kea_pool known d) path d (own_notes pool_keys path d ++ of_range ++ option_notes false known path d) e
 
-pub host_noted : (path : List ℕ) (d : Data) → kea_reservation d ≡ None → have_refused (host_notes path d) ≡ true
+pub host_noted : (known : List Definition) (bare : Bool) (path : List ℕ) (d : Data) → kea_reservation known bare d ≡ None → have_refused (host_notes known bare path d) ≡ true
 unfolding host_notes
-host_noted path d e = nothing_noted (kea_reservation d) path d (own_notes host_keys path d) e
+host_noted known bare path d e =
+    nothing_noted (kea_reservation known bare d) path d (own_notes host_keys path d ++ name_notes bare path d ++ option_notes false known path d) e
 
 root_noted : (server : Option ℕ) (d : Data) → kea_root server d ≡ None → have_refused (root_notes server d) ≡ true
 unfolding root_notes

@@ -24,7 +24,7 @@ use Rattle.kd_kea.specs.declared.objects.definition.Definition.{Definition}
 use Rattle.kd_kea.specs.declared.objects.entry.OptionEntry.{OptionEntry}
 use Rattle.kd_kea.specs.Tables.{data_keys}
 use Rattle.kd_kea.specs.Times.{are_in_order, has_one_lifetime, is_asked_for, fits_below, kea_times, offer_time, shares_given, usual_rebind, usual_renew}
-use Rattle.kd_kea.specs.Values.{text_otherwise}
+use Rattle.kd_kea.specs.Values.{flag_given, text_otherwise}
 use Rattle.serde_json.specs.Data.{Data}
 use Rattle.serde_json.specs.Find.{get}
 
@@ -97,8 +97,9 @@ unfolding entry_by
 given_entry_sound for_all it space code d entry may e =
     let text = came_from (is_text_given (has_type it (standard_type space code)) (get (codes "csv-format") d)) _ entry e in
     let value = came_from (data_by text.first it (text_kind space code) (get (codes "data") d)) _ entry text.gives in
-    let made : OptionEntry = record { space = space; code = code; value = value.first; inner = inner_space it; is_text = text.first } in
-    let test = passed_only (fits_in_option space value.first) made entry value.gives in
+    let always = came_from (flag_given (get (codes "always-send") d)) _ entry value.gives in
+    let made : OptionEntry = record { space = space; code = code; value = value.first; inner = inner_space it; is_text = text.first; always = always.first } in
+    let test = passed_only (fits_in_option space value.first) made entry always.gives in
     subst (IsKeaEntry for_all) test.1 (record { may = other_passed (is_dhcp4 space) (may_configure for_all code) may })
 
 entry_sound : (for_all : Bool) (known : List Definition) (d : Data) (entry : OptionEntry) → kea_entry for_all known d ≡ Some entry → IsKeaEntry for_all entry

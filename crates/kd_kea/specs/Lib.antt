@@ -13,7 +13,9 @@ pub mod Times
 pub mod Class
 pub mod Pool
 pub mod Parts
+pub mod HostName
 pub mod Reservation
+pub mod Relay
 pub mod Subnet
 pub mod Hooks
 pub mod Settings

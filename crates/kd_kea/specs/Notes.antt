@@ -18,12 +18,14 @@ use Rattle.kd_json.specs.Subnet.{subnet_prefix}
 use Rattle.kd_json.specs.Values.{number_if_given, text_if_given}
 use Rattle.kd_kea.specs.Class.{kea_class}
 use Rattle.kd_kea.specs.Definitions.{kea_definition, kea_definitions, kea_known, standard_records, usual_vendor}
+use Rattle.kd_kea.specs.HostName.{has_bare_names, host_name, may_be_named, server_has_bare_names}
 use Rattle.kd_kea.specs.Hooks.{hooks_are_quiet}
 use Rattle.kd_kea.specs.Keys.{KeyUse, Plain, flag, fraction, is_plain, key_use, may_have, no_list, skipped, whole}
 use Rattle.kd_kea.specs.Options.{is_served_space, kea_entry, kea_options, server_address}
 use Rattle.kd_kea.specs.Plain.{plain}
 use Rattle.kd_kea.specs.Parts.{parts_of_all}
 use Rattle.kd_kea.specs.Pool.{kea_pool, kea_range}
+use Rattle.kd_kea.specs.Relay.{kea_relay}
 use Rattle.kd_kea.specs.Reservation.{kea_reservation}
 use Rattle.kd_kea.specs.Settings.{finds_reservations, kea_dhcp4, kea_root, turns_nothing_on}
 use Rattle.kd_kea.specs.Subnet.{is_at_server, kea_subnet, stand_beside}
@@ -255,7 +257,7 @@ all_times d = do
 -- what holds for the whole server by the value of `Dhcp4`, each part if it is right by itself
 unfoldable pub around_of : Option ℕ → Data → Around
 around_of server d =
-    record { address = kea_address server d; times = all_times d; calculated = flag_given (get (codes "calculate-tee-times") d); shares = shares_given d; outside = flag_given (get (codes "reservations-out-of-pool") d); lifetime = lifetime_in d; renew = renew_in d; rebind = rebind_in d }
+    record { address = kea_address server d; times = all_times d; calculated = flag_given (get (codes "calculate-tee-times") d); shares = shares_given d; outside = flag_given (get (codes "reservations-out-of-pool") d); bare = server_has_bare_names d; lifetime = lifetime_in d; renew = renew_in d; rebind = rebind_in d }
 
 -- what holds for the whole server, if all of it is right
 unfoldable pub above_by : Around → Option Above
@@ -264,7 +266,7 @@ above_by around = do
   times ← around.times
   calculated ← around.calculated
   outside ← around.outside
-  Some (record { server = server; times = times; calculated = calculated; shares = around.shares; outside = outside })
+  Some (record { server = server; times = times; calculated = calculated; shares = around.shares; outside = outside; bare = around.bare })
 
 -- the note on whether the times of a subnet are calculated, which is as for the whole server
 abbrev pub calculated_notes : Option Bool → ObjectNotes
@@ -404,10 +406,23 @@ pool_notes known path d =
     ++ note_unless (is_some (get (codes "pool") d >>= kea_range)) Wrong path (codes "pool")
     ++ option_notes false known path d)
 
--- the notes of a reservation at a path
-unfoldable pub host_notes : ObjectNotes
-host_notes path d =
-    object_notes (is_some (kea_reservation d)) path d (own_notes host_keys path d)
+-- the note on a host name, if there is one: it is wrong, or it would have a suffix
+abbrev pub note_on_name : Bool → Option (Option (List ℕ)) → List ℕ → List KeyNote
+note_on_name bare None path = (path_below path (codes "hostname"), Wrong) ∷ []
+note_on_name bare (Some name) path =
+    note_unless (may_be_named bare name) Unknown path (codes "hostname")
+
+-- the note on the host name of a reservation at a path
+abbrev pub name_notes : Bool → ObjectNotes
+name_notes bare path d = note_on_name bare (host_name (get (codes "hostname") d)) path
+
+-- the notes of a reservation at a path, where host names have no suffix or have one
+unfoldable pub host_notes : List Definition → Bool → ObjectNotes
+host_notes known bare path d =
+    object_notes (is_some (kea_reservation known bare d)) path d
+    (own_notes host_keys path d
+    ++ name_notes bare path d
+    ++ option_notes false known path d)
 
 -- the notes of a class at a path; its own definitions come before those of the whole server
 unfoldable pub class_notes : List Definition → ObjectNotes
@@ -420,12 +435,12 @@ class_notes known path d =
     ++ option_notes false (right_definitions true d ++ known) path d)
 
 -- whether reservations may stand beside the pools of a subnet, if all that says so is right
-unfoldable pub kea_beside : Option Bool → List Definition → Data → Option Bool
-kea_beside given known d = do
+unfoldable pub kea_beside : Option Bool → Bool → List Definition → Data → Option Bool
+kea_beside given bare known d = do
   other ← given
   outside ← flag_or other (get (codes "reservations-out-of-pool") d)
   pools ← list_of 64 (kea_pool known) (get (codes "pools") d) >>= parts_of_all
-  reservations ← list_of 4096 kea_reservation (get (codes "reservations") d)
+  reservations ← list_of 4096 (kea_reservation known (has_bare_names bare d)) (get (codes "reservations") d)
   Some (stand_beside outside pools reservations)
 
 -- a test was passed, or not made
@@ -434,14 +449,14 @@ is_not_failed None = true
 is_not_failed (Some passed) = passed
 
 -- the note that reservations of a subnet are not looked for outside pools alone, if a pool has one
-abbrev pub beside_note : Option Bool → List Definition → ObjectNotes
-beside_note given known path d =
-    note_unless (is_not_failed (kea_beside given known d)) Unknown path
+abbrev pub beside_note : Option Bool → Bool → List Definition → ObjectNotes
+beside_note given bare known path d =
+    note_unless (is_not_failed (kea_beside given bare known d)) Unknown path
     (codes "reservations-out-of-pool")
 
 -- the notes of the relay of a subnet at a path
 unfoldable pub relay_notes : ObjectNotes
-relay_notes path d = object_notes true path d (own_notes relay_keys path d)
+relay_notes path d = object_notes (is_some (kea_relay d)) path d (own_notes relay_keys path d)
 
 -- a subnet is described, if it is known what holds above it
 abbrev pub kea_below : Option Above → List Definition → Data → Option (Unit {0})
@@ -458,12 +473,13 @@ subnet_own path d =
     ++ text_note (codes "client-class") path d
     ++ flag_note (codes "reservations-out-of-pool") path d
 
--- the notes on the lists and the relay of a subnet, by these definitions
-unfoldable pub subnet_lists : List Definition → ObjectNotes
-subnet_lists known path d =
+-- the notes on the lists and the relay of a subnet, by these definitions; `bare` says that host names
+-- have no suffix above the subnet
+unfoldable pub subnet_lists : List Definition → Bool → ObjectNotes
+subnet_lists known bare path d =
     option_notes false known path d
     ++ listed_notes 64 (pool_notes known) (codes "pools") path d
-    ++ listed_notes 4096 host_notes (codes "reservations") path d
+    ++ listed_notes 4096 (host_notes known (has_bare_names bare d)) (codes "reservations") path d
     ++ notes_at relay_notes path (codes "relay") d
 
 -- the notes of a subnet at a path, by what holds for the whole server and these definitions
@@ -473,8 +489,8 @@ subnet_notes around known path d =
     (own_notes subnet_keys path d
     ++ subnet_values around path d
     ++ subnet_own path d
-    ++ beside_note around.outside known path d
-    ++ subnet_lists known path d)
+    ++ beside_note around.outside around.bare known path d
+    ++ subnet_lists known around.bare path d)
 
 -- the notes on the lists in the value of `Dhcp4`, by what holds for the whole server and these
 -- definitions

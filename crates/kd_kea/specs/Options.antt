@@ -14,7 +14,7 @@ use Rattle.kd_kea.specs.Definitions.{defined_as, defined_at, is_dhcp4, vendor_sp
 use Rattle.kd_kea.specs.Keys.{keys_are_read}
 use Rattle.kd_kea.specs.OptionValue.{data_by, has_type, is_text_given, standard_type, text_kind}
 use Rattle.kd_kea.specs.Tables.{data_keys}
-use Rattle.kd_kea.specs.Values.{text_otherwise}
+use Rattle.kd_kea.specs.Values.{flag_given, text_otherwise}
 use Rattle.kd_kea.specs.declared.objects.definition.Definition.{Definition}
 use Rattle.kd_kea.specs.declared.objects.entry.OptionEntry.{OptionEntry}
 use Rattle.kd_names.specs.Table.{option_by_name}
@@ -100,7 +100,8 @@ unfoldable pub entry_by : Option Definition → List ℕ → ℕ → Data → Op
 entry_by it space code d = do
   is_text ← is_text_given (has_type it (standard_type space code)) (get (codes "csv-format") d)
   value ← data_by is_text it (text_kind space code) (get (codes "data") d)
-  only_if (fits_in_option space value) (record { space = space; code = code; value = value; inner = inner_space it; is_text = is_text })
+  always ← flag_given (get (codes "always-send") d)
+  only_if (fits_in_option space value) (record { space = space; code = code; value = value; inner = inner_space it; is_text = is_text; always = always })
 
 -- the entry that a value describes, for the whole server or a part of it
 unfoldable pub kea_entry : Bool → List Definition → Data → Option OptionEntry
@@ -144,10 +145,11 @@ unfoldable pub options_below : List OptionEntry → List ℕ → ℕ → List �
 options_below entries space end =
     flat_map (λ code. inner_option (find (is_entry space code) entries)) (range_with_len 0 end)
 
--- the option of an entry: its own value, and then the options that it consists of
+-- the option of an entry: its own value, and then the options that it consists of; its own word says
+-- whether it is sent to all, not theirs
 abbrev pub option_with : List OptionEntry → OptionEntry → OptionData
 option_with entries entry =
-    record { code = entry.code; value = entry.value ++ options_below entries entry.inner 255 }
+    record { code = entry.code; value = entry.value ++ options_below entries entry.inner 255; always = entry.always }
 
 -- an entry is of an option of a message
 abbrev pub is_of_message : OptionEntry → Bool

@@ -8,6 +8,7 @@ use Rattle.kd_json.specs.Steps.{must}
 use Rattle.kd_json.specs.declared.objects.settings.Settings.{Settings}
 use Rattle.kd_kea.specs.Class.{kea_class}
 use Rattle.kd_kea.specs.Definitions.{kea_known}
+use Rattle.kd_kea.specs.HostName.{server_has_bare_names}
 use Rattle.kd_kea.specs.Hooks.{hooks_are_quiet}
 use Rattle.kd_kea.specs.Keys.{Plain, flag, keys_are_read, no_list, word}
 use Rattle.kd_kea.specs.Options.{kea_options, sent_to_all, server_address}
@@ -62,7 +63,7 @@ kea_dhcp4 server d = do
   known ← kea_known (get (codes "option-def") d)
   options ← kea_options true known (get (codes "option-data") d)
   address ← server_address options server
-  kea_settings_with known options (record { server = address; times = times; calculated = calculated; shares = shares_given d; outside = outside }) d
+  kea_settings_with known options (record { server = address; times = times; calculated = calculated; shares = shares_given d; outside = outside; bare = server_has_bare_names d }) d
 
 -- the settings that the value of a whole text describes
 unfoldable pub kea_root : Option ℕ → Data → Option Settings

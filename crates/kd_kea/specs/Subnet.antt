@@ -13,22 +13,19 @@ use Rattle.kd_json.specs.Lists.{list_of}
 use Rattle.kd_json.specs.Steps.{must}
 use Rattle.kd_json.specs.Subnet.{subnet_prefix}
 use Rattle.kd_json.specs.Values.{number_if_given, text_if_given}
+use Rattle.kd_kea.specs.HostName.{has_bare_names}
 use Rattle.kd_kea.specs.Keys.{is_plain, keys_are_read, word}
 use Rattle.kd_kea.specs.Options.{kea_options}
 use Rattle.kd_kea.specs.Parts.{parts_of_all}
 use Rattle.kd_kea.specs.Pool.{kea_pool}
+use Rattle.kd_kea.specs.Relay.{relays_of}
 use Rattle.kd_kea.specs.Reservation.{kea_reservation}
-use Rattle.kd_kea.specs.Tables.{relay_keys, subnet_keys}
+use Rattle.kd_kea.specs.Tables.{subnet_keys}
 use Rattle.kd_kea.specs.Times.{repeats_times}
 use Rattle.kd_kea.specs.Values.{flag_or, unless_empty}
 use Rattle.kd_kea.specs.declared.objects.definition.Definition.{Definition}
 use Rattle.kd_kea.specs.declared.objects.subnet.Above.{Above}
 use Rattle.kd_wire.specs.Steps.{◌>>=◌}
-
--- a subnet's relay, if it is given, names no address
-abbrev pub names_no_relay : Option Data → Bool
-names_no_relay None = true
-names_no_relay (Some d) = keys_are_read relay_keys d
 
 -- a subnet's interface, if it is given, is the one with the server's address: a text that is empty,
 -- or any text if the address is in the subnet's prefix
@@ -49,21 +46,22 @@ abbrev pub stand_beside : Bool → List Pool → List Reservation → Bool
 stand_beside outside pools reservations =
     not outside || list_all (lies_outside pools) reservations
 
--- the subnet of a prefix and a class with the lists in a value, by these definitions of options
-unfoldable pub kea_subnet_with : List Definition → Bool → Prefix → Option (List ℕ) → Data → Option Subnet
-kea_subnet_with known outside prefix class d = do
+-- the subnet of a prefix and a class with the lists in a value, by these definitions of options;
+-- `bare` says that host names have no suffix
+unfoldable pub kea_subnet_with : List Definition → Bool → Bool → Prefix → Option (List ℕ) → Data → Option Subnet
+kea_subnet_with known bare outside prefix class d = do
+  relays ← relays_of (get (codes "relay") d)
   pools ← list_of 64 (kea_pool known) (get (codes "pools") d) >>= parts_of_all
-  reservations ← list_of 4096 kea_reservation (get (codes "reservations") d)
+  reservations ← list_of 4096 (kea_reservation known bare) (get (codes "reservations") d)
   _ ← must (stand_beside outside pools reservations)
   options ← kea_options false known (get (codes "option-data") d)
-  Some (record { prefix = prefix; class = class; pools = pools; reservations = reservations; options = options })
+  Some (record { prefix = prefix; relays = relays; class = class; pools = pools; reservations = reservations; options = options })
 
 -- a value has the keys of a subnet; its `id` is checked but not used
 unfoldable pub has_subnet_form : Above → Data → Option (Unit {0})
 has_subnet_form above d = do
   _ ← must (keys_are_read subnet_keys d)
   _ ← repeats_times above.calculated above.shares above.times d
-  _ ← must (names_no_relay (get (codes "relay") d))
   _ ← number_if_given 1 4294967294 1 (get (codes "id") d)
   Some tt
 
@@ -75,4 +73,4 @@ kea_subnet above known d = do
   _ ← must (is_at_server above.server prefix (get (codes "interface") d))
   class ← text_if_given (get (codes "client-class") d)
   outside ← flag_or above.outside (get (codes "reservations-out-of-pool") d)
-  kea_subnet_with known outside prefix (unless_empty class) d
+  kea_subnet_with known (has_bare_names above.bare d) outside prefix (unless_empty class) d

@@ -92,7 +92,7 @@ data_keys =
     ∷ (codes "data", served)
     ∷ (codes "csv-format", served)
     ∷ (codes "space", served)
-    ∷ (codes "always-send", usual (flag false ∷ []))
+    ∷ (codes "always-send", served)
     ∷ (codes "never-send", usual (flag false ∷ []))
     ∷ (codes "client-classes", usual (no_list ∷ []))
     ∷ remarks
@@ -142,12 +142,10 @@ subnet_keys =
     ∷ (codes "4o6-subnet", usual (word [] ∷ []))
     ∷ required_keys ++ shared_keys
 
--- the keys of a subnet's relay, which name no address
+-- the keys of a subnet's relay
 abbrev pub relay_keys : List (List ℕ × KeyUse)
 relay_keys =
-    (codes "ip-addresses", usual (no_list ∷ []))
-    ∷ (codes "ip-address", usual (word (codes "0.0.0.0") ∷ []))
-    ∷ []
+    (codes "ip-addresses", served) ∷ (codes "ip-address", served) ∷ []
 
 -- the keys of a pool
 abbrev pub pool_keys : List (List ℕ × KeyUse)
@@ -163,8 +161,8 @@ host_keys =
     (codes "hw-address", served)
     ∷ (codes "client-id", served)
     ∷ (codes "ip-address", served)
-    ∷ (codes "hostname", usual (word [] ∷ []))
-    ∷ (codes "option-data", usual (no_list ∷ []))
+    ∷ (codes "hostname", served)
+    ∷ (codes "option-data", served)
     ∷ (codes "client-classes", usual (no_list ∷ []))
     ∷ remarks ++ boot_keys
 

@@ -43,8 +43,6 @@ const NO_THRESHOLD: KeyRule = KeyRule::Usual(&[
 // The values of a key that names nothing.
 const NO_TEXT: KeyRule = KeyRule::Usual(&[UsualValue::Text("")]);
 
-const NO_ADDRESS: KeyRule = KeyRule::Usual(&[UsualValue::Text("0.0.0.0")]);
-
 const NEITHER: KeyRule = KeyRule::Usual(&[UsualValue::Text(""), UsualValue::Text("0.0.0.0")]);
 // The value of a key that lists nothing.
 const NO_LIST: KeyRule = KeyRule::Usual(&[UsualValue::EmptyList]);
@@ -138,7 +136,7 @@ const OPTION: &[Row] = &[
     ("data", KeyRule::Served),
     ("csv-format", KeyRule::Served),
     ("space", KeyRule::Served),
-    ("always-send", OFF),
+    ("always-send", KeyRule::Served),
     ("never-send", OFF),
     ("client-classes", NO_LIST),
 ];
@@ -185,7 +183,10 @@ const SUBNET: &[Row] = &[
 ];
 
 // Keys of a subnet's relay.
-const RELAY: &[Row] = &[("ip-addresses", NO_LIST), ("ip-address", NO_ADDRESS)];
+const RELAY: &[Row] = &[
+    ("ip-addresses", KeyRule::Served),
+    ("ip-address", KeyRule::Served),
+];
 
 // Keys of a pool.
 const POOL: &[Row] = &[
@@ -199,8 +200,8 @@ const RESERVATION: &[Row] = &[
     ("hw-address", KeyRule::Served),
     ("client-id", KeyRule::Served),
     ("ip-address", KeyRule::Served),
-    ("hostname", NO_TEXT),
-    ("option-data", NO_LIST),
+    ("hostname", KeyRule::Served),
+    ("option-data", KeyRule::Served),
     ("client-classes", NO_LIST),
 ];
 

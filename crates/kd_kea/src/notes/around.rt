@@ -5,6 +5,7 @@ ghost use Rattle.kd_kea.specs.Notes.{above_by, around_of, is_not_failed, kea_add
 use crate::objects::alone::read_alone;
 use crate::objects::definition::{Definition, known_definitions};
 use crate::objects::flags::{flag_at, flag_in, flag_or_default};
+use crate::objects::host_name::{names_are_bare, server_names_are_bare};
 use crate::objects::options::options_of;
 use crate::objects::reservation::ReservationReader;
 use crate::objects::scope::scope_of_all;
@@ -33,6 +34,8 @@ pub(crate) struct Around {
     pub(crate) shares: Shares,
     // Reservations are looked for outside pools alone, unless a subnet says otherwise.
     pub(crate) outside: Option<bool>,
+    // Host names have no suffix, unless a subnet says otherwise.
+    pub(crate) bare: bool,
     // The lease time, T1 and T2, in seconds.
     pub(crate) lifetime: Option<u32>,
     pub(crate) renew: Option<u32>,
@@ -54,6 +57,7 @@ pub(super) fn read_around(
         calculated: flag_in(dhcp4, "calculate-tee-times"),
         shares: shares_in(dhcp4),
         outside: flag_in(dhcp4, "reservations-out-of-pool"),
+        bare: server_names_are_bare(dhcp4),
         lifetime: written_lifetime(dhcp4),
         renew: written_renew(dhcp4),
         rebind: written_rebind(dhcp4),
@@ -135,6 +139,7 @@ fn above_in(around: Around) -> Option<Above>
         calculated,
         shares: around.shares,
         outside,
+        bare: around.bare,
     })
 }
 
@@ -143,6 +148,8 @@ fn above_in(around: Around) -> Option<Above>
 struct BesideReader<'a> {
     // Reservations are looked for outside pools alone, unless the subnet says otherwise.
     outside: Option<bool>,
+    // Host names have no suffix, unless the subnet says otherwise.
+    bare: bool,
     // The definitions of options.
     known: &'a [Definition],
 }
@@ -150,7 +157,7 @@ struct BesideReader<'a> {
 impl<'a> EntryReader for BesideReader<'a> {
     type Entry = bool;
 
-    ghost means = { λ reader. kea_beside reader.outside reader.known.now };
+    ghost means = { λ reader. kea_beside reader.outside reader.bare reader.known.now };
 
     #[tactic(auto, unfolding(crate::specs::Notes::kea_beside))]
     fn read(&self, alloc: Global, subnet: &Value, at: &Place<'_>) -> Result<bool, SettingsFault> {
@@ -160,7 +167,11 @@ impl<'a> EntryReader for BesideReader<'a> {
         let key = "reservations-out-of-pool";
         let outside = flag_or_default(alloc, subnet, at, key, other)?;
         let pools = pools_of(alloc, subnet, at, self.known)?;
-        let hosts = entries_of(alloc, subnet, at, "reservations", 4096, &ReservationReader)?;
+        let reader = ReservationReader {
+            known: self.known,
+            bare: names_are_bare(subnet, self.bare),
+        };
+        let hosts = entries_of(alloc, subnet, at, "reservations", 4096, &reader)?;
         Ok(may_be_beside(outside, pools.as_slice(), hosts.as_slice()))
     }
 }
@@ -169,13 +180,18 @@ impl<'a> EntryReader for BesideReader<'a> {
 pub(super) fn is_beside(
     alloc: Global,
     subnet: &Value,
-    outside: Option<bool>,
+    around: Around,
     known: &[Definition],
 ) -> Result<bool, AllocError>
     ensures { IfOk result (λ passed. passed
-        ≡ is_not_failed (kea_beside outside known.now (view subnet.now))) }
+        ≡ is_not_failed (kea_beside around.outside around.bare known.now (view subnet.now))) }
 {
-    match read_alone(alloc, &BesideReader { outside, known }, subnet)? {
+    let reader = BesideReader {
+        outside: around.outside,
+        bare: around.bare,
+        known,
+    };
+    match read_alone(alloc, &reader, subnet)? {
         Some(passed) => Ok(passed),
         None => Ok(true),
     }

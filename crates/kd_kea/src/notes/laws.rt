@@ -52,6 +52,7 @@ pub fn what_is_not_served_is_refused()
         → kea_class known d ≡ None → have_refused (class_notes known path d) ≡ true }
     ensures pool { (known : List Definition) (path : List ℕ) (d : Data)
         → kea_pool known d ≡ None → have_refused (pool_notes known path d) ≡ true }
-    ensures reservation { (path : List ℕ) (d : Data)
-        → kea_reservation d ≡ None → have_refused (host_notes path d) ≡ true }
+    ensures reservation { (known : List Definition) (bare : Bool) (path : List ℕ) (d : Data)
+        → kea_reservation known bare d ≡ None
+        → have_refused (host_notes known bare path d) ≡ true }
 {}

@@ -1,8 +1,9 @@
-ghost use Rattle.std.specs.Prelude.{◌≡◌, ◌++◌, OnOk, false, true};
+ghost use Rattle.std.specs.Prelude.{◌≡◌, ◌++◌, OnOk, codes, false, true};
 ghost use Rattle.serde_json.specs.Find.{get};
 ghost use Rattle.serde_json.specs.View.{members_view, view};
+ghost use Rattle.kd_kea.specs.HostName.{has_bare_names};
 ghost use Rattle.kd_kea.specs.Keys.{key_use};
-ghost use Rattle.kd_kea.specs.Notes.{class_notes, data_notes, definition_note, definition_notes, host_notes, key_notes, kind_of_note, lists_by, member_keys, note_below, option_notes, own_notes, pool_notes, relay_notes, root_notes, server_lists, server_notes, subnet_lists, subnet_notes, subnet_own, subnet_values};
+ghost use Rattle.kd_kea.specs.Notes.{class_notes, data_notes, definition_note, definition_notes, host_notes, key_notes, kind_of_note, listed_notes, lists_by, member_keys, note_below, option_notes, own_notes, pool_notes, relay_notes, root_notes, server_lists, server_notes, subnet_lists, subnet_notes, subnet_own, subnet_values};
 ghost use Rattle.kd_kea.specs.Scope.{definitions_in};
 ghost use Rattle.kd_kea.specs.Tables.{key_table, subnet_keys};
 
@@ -12,8 +13,8 @@ use crate::notes::NoteKind;
 use crate::notes::around::{Around, BelowReader, is_beside, read_around};
 use crate::notes::list::NoteList;
 use crate::notes::values::{
-    note_flag, note_server_times, note_server_values, note_subnet_own, note_subnet_values,
-    note_text,
+    note_flag, note_name, note_server_times, note_server_values, note_subnet_own,
+    note_subnet_values, note_text,
 };
 use crate::notes::walk::{
     Listed, NotedObject, append_checked, note_each, note_failed, note_list, note_value,
@@ -22,7 +23,9 @@ use crate::notes::wholes::{DefinitionListReader, OptionListReader, RootReader, S
 use crate::objects::class::{ClassReader, has_class_name};
 use crate::objects::definition::{Definition, DefinitionReader, definitions_alone, known_alone};
 use crate::objects::entry::{OptionReader, has_served_space};
+use crate::objects::host_name::names_are_bare;
 use crate::objects::pool::{PoolReader, has_range};
+use crate::objects::relay::RelayReader;
 use crate::objects::reservation::ReservationReader;
 use crate::objects::scope::{OptionScope, part_scope, scope_of_all};
 use crate::tables::ObjectKind;
@@ -178,7 +181,7 @@ impl<'a> NotedObject for SubnetObject<'a> {
             known: self.known,
         };
         let alloc = notes.allocator();
-        let beside = is_beside(alloc, subnet, self.around.outside, self.known)?;
+        let beside = is_beside(alloc, subnet, self.around, self.known)?;
         let mut inner = NoteList::new(notes.allocator());
         note_subnet_keys(&mut inner, subnet, path, self.around)?;
         note_failed(
@@ -188,7 +191,7 @@ impl<'a> NotedObject for SubnetObject<'a> {
             "reservations-out-of-pool",
             NoteKind::Unknown,
         )?;
-        note_subnet_lists(&mut inner, subnet, path, self.known)?;
+        note_subnet_lists(&mut inner, subnet, path, self.known, self.around.bare)?;
         append_checked(notes, inner, &reader, subnet, path)
     }
 }
@@ -209,29 +212,51 @@ fn note_subnet_keys(
     note_subnet_own(notes, subnet, path)
 }
 
-// Notes the lists and the relay of a subnet, by these definitions of options.
+// Notes the lists and the relay of a subnet, by these definitions of options. `bare` says that host
+// names have no suffix above it.
 #[tactic(auto, unfolding(crate::specs::Notes::subnet_lists))]
 fn note_subnet_lists(
     notes: &mut NoteList,
     subnet: &Value,
     path: &str,
     known: &[Definition],
+    bare: bool,
 ) -> Result<(), AllocError>
     ensures { OnOk result
-        (notes.new ≡ notes.old ++ subnet_lists known.now path.now (view subnet.now)) }
+        (notes.new ≡ notes.old ++ subnet_lists known.now bare path.now (view subnet.now)) }
 {
     let pools = Listed {
         key: "pools",
         most: 64,
     };
+    note_part_options(notes, subnet, path, known)?;
+    note_list(notes, subnet, path, pools, PoolObject { known })?;
+    note_hosts(notes, subnet, path, known, bare)?;
+    note_value(notes, subnet, path, "relay", RelayObject)
+}
+
+// Notes the reservations of a subnet, by these definitions of options. `bare` says that host names
+// have no suffix above it.
+fn note_hosts(
+    notes: &mut NoteList,
+    subnet: &Value,
+    path: &str,
+    known: &[Definition],
+    bare: bool,
+) -> Result<(), AllocError>
+    ensures { OnOk result (notes.new ≡ notes.old
+        ++ listed_notes 4096 (host_notes known.now (has_bare_names bare (view subnet.now)))
+        (codes "reservations") path.now (view subnet.now)) }
+{
     let hosts = Listed {
         key: "reservations",
         most: 4096,
     };
-    note_part_options(notes, subnet, path, known)?;
-    note_list(notes, subnet, path, pools, PoolObject { known })?;
-    note_list(notes, subnet, path, hosts, HostObject)?;
-    note_value(notes, subnet, path, "relay", RelayObject)
+    let reader = ReservationReader {
+        known,
+        bare: names_are_bare(subnet, bare),
+    };
+    note_list(notes, subnet, path, hosts, HostObject { reader })
 }
 
 // A pool, with the definitions of options.
@@ -256,12 +281,14 @@ impl<'a> NotedObject for PoolObject<'a> {
     }
 }
 
-// A reservation.
+// A reservation, as it is read.
 #[derive(Clone, Copy)]
-struct HostObject;
+struct HostObject<'a> {
+    reader: ReservationReader<'a>,
+}
 
-impl NotedObject for HostObject {
-    ghost noted = { λ it. host_notes };
+impl<'a> NotedObject for HostObject<'a> {
+    ghost noted = { λ it. host_notes it.reader.known.now it.reader.bare };
 
     #[tactic(auto, unfolding(crate::specs::Notes::host_notes))]
     fn note(self, notes: &mut NoteList, host: &Value, path: &str) -> Result<(), AllocError> {
@@ -270,7 +297,9 @@ impl NotedObject for HostObject {
         }
         let mut inner = NoteList::new(notes.allocator());
         note_keys(&mut inner, host, path, ObjectKind::Reservation)?;
-        append_checked(notes, inner, &ReservationReader, host, path)
+        note_name(&mut inner, host, path, self.reader.bare)?;
+        note_part_options(&mut inner, host, path, self.reader.known)?;
+        append_checked(notes, inner, &self.reader, host, path)
     }
 }
 
@@ -286,7 +315,9 @@ impl NotedObject for RelayObject {
         if relay.as_object().is_none() {
             return notes.push_path(path, NoteKind::Wrong);
         }
-        note_keys(notes, relay, path, ObjectKind::Relay)
+        let mut inner = NoteList::new(notes.allocator());
+        note_keys(&mut inner, relay, path, ObjectKind::Relay)?;
+        append_checked(notes, inner, &RelayReader, relay, path)
     }
 }
 

@@ -4,7 +4,7 @@ ghost use Rattle.serde_json.specs.View.{view};
 ghost use Rattle.kd_config.specs.Sound.{longest_lease};
 ghost use Rattle.kd_json.specs.Subnet.{subnet_prefix};
 ghost use Rattle.kd_json.specs.Values.{number_if_given, text_if_given};
-ghost use Rattle.kd_kea.specs.Notes.{calculated_notes, flag_note, hook_kind, hook_notes, interface_notes, lease_notes, limit_notes, number_note, off_notes, repeated_notes, repeated_shares, server_times, server_values, service_notes, share_notes, subnet_own, subnet_values, text_note, time_note, unused_share, unused_shares, usual_note};
+ghost use Rattle.kd_kea.specs.Notes.{calculated_notes, flag_note, hook_kind, hook_notes, interface_notes, lease_notes, limit_notes, name_notes, number_note, off_notes, repeated_notes, repeated_shares, server_times, server_values, service_notes, share_notes, subnet_own, subnet_values, text_note, time_note, unused_share, unused_shares, usual_note};
 ghost use Rattle.kd_kea.specs.Rows.{plain_of};
 
 use crate::keys::{UsualValue, is_usual};
@@ -12,8 +12,11 @@ use crate::notes::NoteKind;
 use crate::notes::around::{Around, TimesReader};
 use crate::notes::list::NoteList;
 use crate::notes::walk::{NotedObject, append_checked, note_failed, note_value};
+use crate::notes::wholes::NameReader;
+use crate::objects::alone::read_alone;
 use crate::objects::flags::{flag_in, is_usual_at};
 use crate::objects::hooks::are_quiet_hooks;
+use crate::objects::host_name::may_have_name;
 use crate::objects::settings::{has_identifiers, is_off};
 use crate::objects::subnet::{has_server_interface, written_prefix};
 use crate::objects::times::{
@@ -451,5 +454,23 @@ fn is_text(object: &Value, key: &str) -> bool
     match value.as_str() {
         Some(_) => true,
         None => false,
+    }
+}
+
+// Notes the host name of a reservation, if it is wrong or would have a suffix.
+pub(super) fn note_name(
+    notes: &mut NoteList,
+    host: &Value,
+    path: &str,
+    bare: bool,
+) -> Result<(), AllocError>
+    ensures { OnOk result (notes.new ≡ notes.old ++ name_notes bare path.now (view host.now)) }
+{
+    match read_alone(notes.allocator(), &NameReader, host)? {
+        Some(name) => {
+            let passed = may_have_name(bare, &name);
+            note_failed(notes, passed, path, "hostname", NoteKind::Unknown)
+        }
+        None => note_failed(notes, false, path, "hostname", NoteKind::Wrong),
     }
 }

@@ -1,11 +1,13 @@
 ghost use Rattle.std.specs.Prelude.{codes};
 ghost use Rattle.serde_json.specs.Find.{get};
 ghost use Rattle.kd_kea.specs.Definitions.{kea_definitions};
+ghost use Rattle.kd_kea.specs.HostName.{host_name};
 ghost use Rattle.kd_kea.specs.Options.{kea_options};
 ghost use Rattle.kd_kea.specs.Scope.{definitions_in};
 ghost use Rattle.kd_kea.specs.Settings.{kea_dhcp4, kea_root};
 
 use crate::objects::definition::{Definition, definitions_of};
+use crate::objects::host_name::name_of;
 use crate::objects::options::options_of;
 use crate::objects::scope::OptionScope;
 use crate::objects::settings::{root_of, settings_of};
@@ -14,7 +16,7 @@ use kd_json::objects::faults::SettingsFault;
 use kd_json::objects::lists::EntryReader;
 use kd_json::objects::settings::Settings;
 use kd_json::rules::place::Place;
-use kd_wire::Entries;
+use kd_wire::{Bytes, Entries};
 use serde_json::Value;
 use std::alloc::Global;
 
@@ -99,5 +101,24 @@ impl EntryReader for DefinitionListReader {
         at: &Place<'_>,
     ) -> Result<Entries<Definition>, SettingsFault> {
         definitions_of(alloc, object, at, self.in_class)
+    }
+}
+
+// Reads the host name of a reservation.
+#[derive(Clone, Copy)]
+pub(super) struct NameReader;
+
+impl EntryReader for NameReader {
+    type Entry = Option<Bytes>;
+
+    ghost means = { λ reader d. host_name (get (codes "hostname") d) };
+
+    fn read(
+        &self,
+        alloc: Global,
+        host: &Value,
+        at: &Place<'_>,
+    ) -> Result<Option<Bytes>, SettingsFault> {
+        name_of(alloc, host, at)
     }
 }

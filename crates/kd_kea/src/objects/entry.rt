@@ -11,7 +11,7 @@ ghost use Rattle.kd_kea.specs.Scope.{definitions_in};
 
 use crate::checking::check_keys;
 use crate::objects::definition::Definition;
-use crate::objects::flags::text_or_default;
+use crate::objects::flags::{flag_at, text_or_default};
 use crate::objects::option_value::{data_of, standard_type_of, text_given, text_kind_of};
 use crate::objects::scope::OptionScope;
 use crate::objects::space::{is_of_messages, is_readable};
@@ -47,6 +47,8 @@ pub(crate) struct OptionEntry {
     pub(crate) inner: Bytes,
     // Its value is written as text.
     pub(crate) is_text: bool,
+    // It is sent to clients that do not ask for it.
+    pub(crate) always: bool,
 }
 
 // Reads entries of options.
@@ -108,42 +110,28 @@ fn entry_at(
     let is_text = text_given(alloc, is_typed(definition, space, code), value, at)?;
     let kind = text_kind_of(space, code);
     let bytes = data_of(alloc, is_text, definition, kind, value, at)?;
-    if fits(space, bytes.as_slice()) {
-        Ok(new_entry(alloc, space, code, bytes, definition, is_text)?)
-    } else {
-        Err(bad_value(alloc, at, "data"))
+    let always = flag_at(alloc, value, at, "always-send")?;
+    if !fits(space, bytes.as_slice()) {
+        return Err(bad_value(alloc, at, "data"));
     }
-}
-
-// Makes an entry.
-fn new_entry(
-    alloc: Global,
-    space: &[u8],
-    code: u8,
-    value: Bytes,
-    definition: Option<&Definition>,
-    is_text: bool,
-) -> Result<OptionEntry, AllocError>
-    ensures { IfOk result (λ entry. entry
-        ≡ record {
-          space = space.now;
-          code = code;
-          value = value;
-          inner = inner_space (option_copied definition.entry);
-          is_text = is_text;
-        }) }
-{
-    let inner = match definition {
-        Some(it) => own_bytes(alloc, it.inner.as_slice())?,
-        None => own_bytes(alloc, &[])?,
-    };
     Ok(OptionEntry {
         space: own_bytes(alloc, space)?,
         code,
-        value,
-        inner,
+        value: bytes,
+        inner: inner_space_of(alloc, definition)?,
         is_text,
+        always,
     })
+}
+
+// Returns the space of the options that follow an option's own value; empty if there is none.
+fn inner_space_of(alloc: Global, definition: Option<&Definition>) -> Result<Bytes, AllocError>
+    ensures { IfOk result (λ space. space ≡ inner_space (option_copied definition.entry)) }
+{
+    match definition {
+        Some(it) => own_bytes(alloc, it.inner.as_slice()),
+        None => own_bytes(alloc, &[]),
+    }
 }
 
 // Reports whether a value has a length that an option of the space may have.

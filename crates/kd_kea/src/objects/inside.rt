@@ -38,6 +38,7 @@ fn option_of(
     Ok(OptionData {
         code: entry.code,
         value: Bytes::own(value),
+        always: entry.always,
     })
 }
 

@@ -105,6 +105,7 @@ fn copied(alloc: Global, options: &[OptionData]) -> Result<OptionList, AllocErro
         list.push(OptionData {
             code: option.code,
             value: Bytes::own(value),
+            always: option.always,
         })?;
     }
     Ok(OptionList::own(list))

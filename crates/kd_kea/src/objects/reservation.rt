@@ -1,6 +1,8 @@
 ghost use Rattle.kd_kea.specs.Reservation.{kea_reservation};
 
 use crate::checking::check_keys;
+use crate::objects::definition::Definition;
+use crate::objects::host_name::host_options_of;
 use crate::objects::whole_bytes::check_whole;
 use crate::tables::ObjectKind;
 use kd_config::Reservation;
@@ -13,12 +15,18 @@ use serde_json::Value;
 use std::alloc::Global;
 
 // Reads reservations.
-pub(crate) struct ReservationReader;
+#[derive(Clone, Copy)]
+pub(crate) struct ReservationReader<'a> {
+    // The definitions of options.
+    pub(crate) known: &'a [Definition],
+    // Host names have no suffix.
+    pub(crate) bare: bool,
+}
 
-impl EntryReader for ReservationReader {
+impl<'a> EntryReader for ReservationReader<'a> {
     type Entry = Reservation;
 
-    ghost means = { λ _. kea_reservation };
+    ghost means = { λ reader. kea_reservation reader.known.now reader.bare };
 
     #[tactic(auto, unfolding(crate::specs::Reservation::kea_reservation))]
     fn read(
@@ -34,9 +42,14 @@ impl EntryReader for ReservationReader {
         let Some(text) = value.get("ip-address") else {
             return Err(missing(alloc, at, "ip-address"));
         };
-        match address_in(text) {
-            Some(address) => Ok(Reservation { identity, address }),
-            None => Err(bad_value(alloc, at, "ip-address")),
-        }
+        let Some(address) = address_in(text) else {
+            return Err(bad_value(alloc, at, "ip-address"));
+        };
+        let options = host_options_of(alloc, value, at, self.known, self.bare)?;
+        Ok(Reservation {
+            identity,
+            address,
+            options,
+        })
     }
 }

@@ -16,6 +16,7 @@ use crate::objects::class::ClassReader;
 use crate::objects::definition::{Definition, known_definitions};
 use crate::objects::flags::{check_usual, flag_at, is_usual_at};
 use crate::objects::hooks::check_hooks;
+use crate::objects::host_name::server_names_are_bare;
 use crate::objects::options::{address_among, options_of, without_server};
 use crate::objects::scope::scope_of_all;
 use crate::objects::subnet::{Above, SubnetReader};
@@ -70,6 +71,7 @@ pub(crate) fn settings_of(
         calculated,
         shares: shares_in(value),
         outside,
+        bare: server_names_are_bare(value),
     };
     settings_of_lists(alloc, value, at, known.as_slice(), options, above)
 }

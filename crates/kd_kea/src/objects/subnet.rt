@@ -10,14 +10,16 @@ ghost use Rattle.kd_json.specs.Subnet.{subnet_prefix};
 ghost use Rattle.kd_json.specs.declared.objects.faults.SettingsFault.TheVariants.{Memory};
 ghost use Rattle.kd_kea.specs.Parts.{parts_of_all};
 ghost use Rattle.kd_kea.specs.Pool.{kea_pool};
-ghost use Rattle.kd_kea.specs.Subnet.{has_subnet_form, is_at_server, kea_subnet, kea_subnet_with, lies_outside, names_no_relay, stand_beside};
+ghost use Rattle.kd_kea.specs.Subnet.{has_subnet_form, is_at_server, kea_subnet, kea_subnet_with, lies_outside, stand_beside};
 
 use crate::checking::check_keys;
 use crate::objects::definition::Definition;
 use crate::objects::flags::{flag_or_default, non_empty};
+use crate::objects::host_name::names_are_bare;
 use crate::objects::options::options_of;
 use crate::objects::parts::parts_of_pools;
 use crate::objects::pool::PoolReader;
+use crate::objects::relay::relays_in;
 use crate::objects::reservation::ReservationReader;
 use crate::objects::scope::part_scope;
 use crate::objects::times::{Shares, check_times};
@@ -45,6 +47,8 @@ pub(crate) struct Above {
     pub(crate) shares: Shares,
     // Reservations are looked for outside pools alone, unless a subnet says otherwise.
     pub(crate) outside: bool,
+    // Host names have no suffix, unless a subnet says otherwise.
+    pub(crate) bare: bool,
 }
 
 // Reads subnets.
@@ -78,15 +82,11 @@ impl<'a> EntryReader for SubnetReader<'a> {
             "reservations-out-of-pool",
             self.above.outside,
         )?;
-        subnet_of_lists(
-            alloc,
-            value,
-            at,
-            self.known,
-            outside,
-            prefix,
-            non_empty(class),
-        )
+        let hosts = ReservationReader {
+            known: self.known,
+            bare: names_are_bare(value, self.above.bare),
+        };
+        subnet_of_lists(alloc, value, at, hosts, outside, prefix, non_empty(class))
     }
 }
 
@@ -109,19 +109,8 @@ fn check_form(
         above.shares,
         above.times,
     )?;
-    check_no_relay(alloc, value, at)?;
     number_or(alloc, value, at, "id", 1, 4_294_967_294, 1)?;
     Ok(())
-}
-
-// Checks that a subnet names no address of a relay.
-fn check_no_relay(alloc: Global, subnet: &Value, at: &Place<'_>) -> Result<(), SettingsFault>
-    ensures { Means Memory result (must (names_no_relay (get (codes "relay") (view subnet.now)))) }
-{
-    match subnet.get("relay") {
-        Some(relay) => check_keys(alloc, relay, &Place::Key(&*at, "relay"), ObjectKind::Relay),
-        None => Ok(()),
-    }
 }
 
 // Checks that a subnet's interface is the one with the server's address.
@@ -163,23 +152,25 @@ pub(crate) fn written_prefix(subnet: &Value) -> Option<Prefix>
     prefix_in(subnet.get("subnet")?)
 }
 
-// Builds the subnet of a prefix and a class with the lists in a value, by these definitions of
-// options.
+// Builds the subnet of a prefix and a class with the lists in a value, by the definitions of options
+// with which its reservations are read.
 #[tactic(auto, unfolding(crate::specs::Subnet::kea_subnet_with))]
 fn subnet_of_lists(
     alloc: Global,
     value: &Value,
     at: &Place<'_>,
-    known: &[Definition],
+    hosts: ReservationReader<'_>,
     outside: bool,
     prefix: Prefix,
     class: Option<Bytes>,
 ) -> Result<Subnet, SettingsFault>
     ensures { Means Memory result
-        (kea_subnet_with known.now outside prefix class (view value.now)) }
+        (kea_subnet_with hosts.entry.known.now hosts.entry.bare outside prefix class
+        (view value.now)) }
 {
-    let pools = pools_of(alloc, value, at, known)?;
-    let reservations = entries_of(alloc, value, at, "reservations", 4096, &ReservationReader)?;
+    let relays = relays_in(alloc, value, at)?;
+    let pools = pools_of(alloc, value, at, hosts.known)?;
+    let reservations = entries_of(alloc, value, at, "reservations", 4096, &hosts)?;
     check_outside(
         alloc,
         at,
@@ -187,10 +178,11 @@ fn subnet_of_lists(
         pools.as_slice(),
         reservations.as_slice(),
     )?;
-    let options = options_of(alloc, value, at, part_scope(known))?;
+    let options = options_of(alloc, value, at, part_scope(hosts.known))?;
     let reservations = Reservations::own(alloc, reservations.into_vec())?;
     Ok(Subnet {
         prefix,
+        relays,
         class,
         pools,
         reservations,

@@ -7,5 +7,5 @@ pub returns : goal.returns
 unfolding subnet_lists
 returns c =
     on_ok_weaker c.note_value.result
-    (four_joined _ _ _ _ _ _ _ _ _ c.in_ok-note_part_options.ensures c.in_ok-note_list.ensures c.in_ok-note_list-2.ensures)
+    (four_joined _ _ _ _ _ _ _ _ _ c.in_ok-note_part_options.ensures c.in_ok-note_list.ensures c.in_ok-note_hosts.ensures)
     c.note_value.ensures
