@@ -1,5 +1,7 @@
 -- What the arguments of a command line do over a machine whose files held these bytes.
-use Rattle.std.specs.Prelude.{◌≡◌, ◌⊎◌, ℕ, Bool, Err, IfOk, List, [], Ok, Option, None, Result, Some, false, is_some, option_map, string_bytes, true}
+use Rattle.std.specs.Prelude.{◌≡◌, ◌⊎◌, ℕ, Bool, Err, IfOk, IsErr, List, [], Ok, Option, None, Result, Some, false, is_some, option_map, string_bytes, true}
+use Rattle.std.specs.declared.io.Error.{Error}
+use Rattle.std.specs.declared.net.udp.UdpSocket.{UdpSocket}
 use Rattle.sqlite_disk.specs.declared.Disk.{Ghosts as Disks}
 use Rattle.sqlite_store.specs.FileStore.{view}
 use Rattle.sqlite_store.specs.declared.store.FileStore.{FileStore}
@@ -25,6 +27,7 @@ use Rattle.kd_start.specs.KeaWords.{AreKeaRemarks, AreKeaStartWords}
 use Rattle.kd_start.specs.Start.{IsNoStartOfFiles, IsNoStartOfKeaFile, IsOfFiles, IsOfKeaFile}
 use Rattle.kd_start.specs.Words.{AreStartWords}
 use Rattle.kd_io.specs.declared.link.Sending.{Sending}
+use Rattle.kd_io.specs.declared.system.System.{Ghosts as Systems}
 use Rattle.kd_io.specs.declared.look.LookFault.{LookFault}
 use Rattle.kd_io.specs.declared.look.LookFault.TheVariants as looks
 use Rattle.kd_trouble.specs.declared.fault.StartFault.{StartFault}
@@ -47,12 +50,22 @@ abbrev pub sending_of : Listening → Sending
 sending_of listening =
     record { mirror = listening.mirror; broadcast_as = listening.broadcast_as }
 
+-- a link is over the socket that was opened for it; if none could be opened, there is no link
+abbrev pub IsOver : {E F L : Type 0} → (L → UdpSocket) → Result UdpSocket E → Result L F → Type 0
+IsOver below (Ok socket) result = IfOk result (λ link. below link ≡ socket)
+IsOver below (Err fault) result = IsErr result
+
 -- a link over a socket that was handed over uses that socket; if what was handed over is not a
--- socket, there is no link
-abbrev pub IsOfHanded : {S E L : Type 0} → (L → S) → Option (Result S E) → Result L E → Type 0
-IsOfHanded below None result = Unit {0}
-IsOfHanded below (Some (Ok socket)) result = IfOk result (λ link. below link ≡ socket)
-IsOfHanded below (Some (Err fault)) result = result ≡ Err fault
+-- socket, there is no link; if nothing was, the link is over what a system opens at the address and
+-- the port to listen at
+abbrev pub IsLinkFor : {S F L : Type 0} → Systems S → (L → UdpSocket) → S → Listening
+    → Option (Result UdpSocket F) → Result L F → Type 0
+IsLinkFor s below system listening None result =
+    (given : Result UdpSocket Error) × s.opens system listening.bind listening.port given
+    × IsOver below given result
+IsLinkFor s below system listening (Some (Ok socket)) result =
+    IfOk result (λ link. below link ≡ socket)
+IsLinkFor s below system listening (Some (Err fault)) result = result ≡ Err fault
 
 -- rows are those in the bytes of a database and of its log
 abbrev pub AreRowsFound : List Row → Type 0

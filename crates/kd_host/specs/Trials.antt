@@ -1,22 +1,23 @@
 -- What this machine tells of its clock and of the log of a database, by what the system gave. Which
--- time it is, and which bytes lie at a path, is in no clause.
+-- bytes lie at a path is in no clause.
 use Rattle.std.specs.Prelude.{◌≡◌, ◌⊎◌, ℕ, ◌/◌, ◌==◌, ◌&&◌, not, IfErr, IfOk, List, MatchBool, Ok, Err, Option, Some, None, Result, length}
 use Rattle.std.specs.Time.{FitsClock, system_time_nanos}
 use Rattle.std.specs.declared.io.Error.{Error}
 use Rattle.std.specs.declared.time.SystemTime.{SystemTime}
 use Rattle.kd_database.specs.Tail.{AreLeftOut, IsNoCount}
 use Rattle.kd_keeps.specs.declared.fault.StoreFault.{StoreFault}
+use Rattle.kd_io.specs.declared.system.System.{Ghosts as Systems}
 
 -- the whole seconds of a time that the system gave; 0 if it gave none
 abbrev pub seconds_told : Result SystemTime Error → ℕ
 seconds_told (Ok time) = system_time_nanos time / 1_000_000_000
 seconds_told (Err error) = 0
 
--- a time of the clock: that of a time in its range, in whole seconds, or 0
-abbrev pub IsTimeOfClock : ℕ → Type 0
-IsTimeOfClock moment =
-    (given : Result SystemTime Error) × IfOk given (λ time. FitsClock (system_time_nanos time))
-    × (moment ≡ seconds_told given)
+-- the time of the clock of a system, which is in its range, in whole seconds; 0 if it gave none
+abbrev pub IsTimeOfClock : {S : Type 0} → Systems S → S → ℕ → Type 0
+IsTimeOfClock s system moment =
+    (given : Result SystemTime Error) × s.tells system given
+    × IfOk given (λ time. FitsClock (system_time_nanos time)) × (moment ≡ seconds_told given)
 
 -- a count, if there is one; nothing if it cannot be determined
 abbrev pub count_told : Result (Option ℕ) StoreFault → Option ℕ

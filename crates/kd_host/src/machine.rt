@@ -1,11 +1,14 @@
-ghost use Rattle.std.specs.Prelude.{◌≡◌, is_some, option_map, string_bytes};
+ghost use Rattle.std.specs.Prelude.{◌≡◌, IfOk, false, is_some, option_map, string_bytes};
 ghost use Rattle.std.specs.Option.{option_copied};
+ghost use Rattle.kd_host.specs.OnFiles.{IsOver};
 ghost use Rattle.kd_host.specs.Trials.{IsUnused, count_told, seconds_told};
 
 use kd_commands::{Files, Form, Listening};
 use kd_config::Config;
 use kd_database::{left_out, let_go, rows_in_bytes, store_from};
-use kd_io::{Appended, Copied, LookFault, Output, Sending, Socket, copy_at, journal, seconds_of};
+use kd_io::{
+    Appended, Copied, LookFault, Output, Sending, Socket, System, copy_at, journal, seconds_of,
+};
 use kd_keeps::{Cause, Opened, StoreFault, Volatile};
 use kd_loops::EndFailed;
 use kd_program::Host;
@@ -27,35 +30,39 @@ use std::time::SystemTime;
 /// What is below a store of leases in files that held the bytes that a start stands for.
 pub type Below<F> = FileStore<FileFrom<F>>;
 
-/// This machine as the host of the program. Its start stands for what the files of one store hold,
-/// and can be used for one opening. A socket that was handed to the process can be used for one
-/// link.
+/// This machine as the host of the program. Its system is asked for sockets and the time. Its start
+/// stands for what the files of one store hold, and can be used for one opening. A socket that was
+/// handed to the process can be used for one link.
 #[derive(Drop)]
-pub struct Machine<'a, F: Start, L: Drop> {
+pub struct Machine<'a, S: System, F: Start, L: Drop> {
     pub(crate) rt: &'a HostRuntime,
+    system: &'a S,
     version: &'a str,
     start: Option<F>,
     handed: Option<Result<UdpSocket, EndFailed>>,
     left: Option<L>,
 }
 
-impl<'a, F: Start> Machine<'a, F, Below<F>> {
+impl<'a, S: System, F: Start> Machine<'a, S, F, Below<F>> {
     ghost use Rattle.std.specs.Prelude.{◌≡◌, None};
 
-    /// Makes the machine of a runtime, on which a program of this version runs, with the socket
-    /// that was handed to the process, if any. Nothing has been left below its store yet.
+    /// Makes the machine of a runtime and a system, on which a program of this version runs, with the
+    /// socket that was handed to the process, if any. Nothing has been left below its store yet.
     pub fn of(
         rt: &'a HostRuntime,
+        system: &'a S,
         version: &'a str,
         start: F,
         handed: Option<Result<UdpSocket, EndFailed>>,
-    ) -> Machine<'a, F, Below<F>>
+    ) -> Machine<'a, S, F, Below<F>>
         ensures left { result.left ≡ None }
         ensures handed { result.handed ≡ handed }
+        ensures system { result.system.now ≡ system.now }
         ensures version { result.version.now ≡ version.now }
     {
         Machine {
             rt,
+            system,
             version,
             start: Some(start),
             handed,
@@ -64,14 +71,14 @@ impl<'a, F: Start> Machine<'a, F, Below<F>> {
     }
 }
 
-impl<'a, F: Start> Host for Machine<'a, F, Below<F>> {
+impl<'a, S: System, F: Start> Host for Machine<'a, S, F, Below<F>> {
     ghost use Rattle.std.specs.Prelude.{◌≡◌, IfErr, IfOk, Some, false, is_some, true};
     ghost use Rattle.sqlite_store.specs.FileStore.{view};
     ghost use Rattle.sqlite_trees.specs.View.{IsClean};
     ghost use Rattle.sqlite_wal.specs.Files.{image_at};
     ghost use Rattle.kd_database.specs.Stops.{LiesBelow};
     ghost use Rattle.kd_database.specs.Stores.{IsStoreIn, StandsAsHeld, StandsNew};
-    ghost use Rattle.kd_host.specs.OnFiles.{AreRemarksOfThese, AreRowsFound, AreWordsOfThese, GivesNoRows, GivesNoStore, IsNoStartOfThese, IsOfHanded, IsOfThese, sending_of};
+    ghost use Rattle.kd_host.specs.OnFiles.{AreRemarksOfThese, AreRowsFound, AreWordsOfThese, GivesNoRows, GivesNoStore, IsLinkFor, IsNoStartOfThese, IsOfThese, sending_of};
     ghost use Rattle.kd_host.specs.Trials.{IsTimeOfClock, IsUnusedOfSome};
     ghost use Rattle.kd_start.specs.Trials.{IsSocketTrial, IsStoreTrial};
 
@@ -101,15 +108,16 @@ impl<'a, F: Start> Host for Machine<'a, F, Below<F>> {
 
     ghost binds = { λ old listening result new.
         IfOk result (λ link. link.sending ≡ sending_of listening)
-        × IsOfHanded (λ link. link.socket) old.handed result };
+        × IsLinkFor S.System (λ link. link.socket) old.system.now listening old.handed result };
 
     ghost records = { λ old path result new. IfOk result (λ sink. sink.failed ≡ false) };
 
     ghost tries = { λ machine path answer. IsStoreTrial path answer };
 
-    ghost reaches = { λ machine address port answer. IsSocketTrial answer };
+    ghost reaches = { λ machine address port answer.
+        IsSocketTrial S.System machine.system.now address port answer };
 
-    ghost tells_time = { λ machine moment. IsTimeOfClock moment };
+    ghost tells_time = { λ machine moment. IsTimeOfClock S.System machine.system.now moment };
 
     ghost explains = { λ machine files fault words. AreWordsOfThese files fault words };
 
@@ -164,7 +172,7 @@ impl<'a, F: Start> Host for Machine<'a, F, Below<F>> {
         match self.handed.take() {
             Some(Ok(socket)) => Socket::of_inherited(self.rt, socket, address, port, sending),
             Some(Err(failed)) => Err(failed),
-            None => Socket::bind(self.rt, address, port, sending),
+            None => opened(self.rt, self.system.open(address, port), sending),
         }
     }
 
@@ -205,15 +213,31 @@ impl<'a, F: Start> Host for Machine<'a, F, Below<F>> {
     }
 
     fn try_socket(&self, address: u32, port: u16) -> Result<bool, SocketTrouble> {
-        try_socket(self.rt, address, port)
+        try_socket(self.system, address, port)
     }
 
     fn clock(&self) -> u64 {
-        seconds_given(SystemTime::now(self.rt))
+        seconds_given(self.system.time())
     }
 
     fn version(&self) -> &str {
         self.version
+    }
+}
+
+// Returns a link over a socket that the system gave, if it gave one.
+fn opened<'a>(
+    rt: &'a HostRuntime,
+    given: io::Result<UdpSocket>,
+    sending: Sending,
+) -> Result<Socket<'a>, EndFailed>
+    ensures over { IsOver (λ link. link.socket) given result }
+    ensures sending { IfOk result (λ link. link.sending ≡ sending) }
+    ensures works { IfOk result (λ link. link.failed ≡ false) }
+{
+    match given {
+        Ok(socket) => Socket::to_all(rt, socket, sending),
+        Err(_) => Err(EndFailed),
     }
 }
 

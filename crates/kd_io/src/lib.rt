@@ -14,6 +14,7 @@ mod link;
 mod look;
 mod source;
 mod streams;
+mod system;
 mod watching;
 
 pub use activation::inherited_socket;
@@ -23,4 +24,5 @@ pub use link::{Sending, Socket, place_at, seconds_of, target};
 pub use look::{Copied, FilePart, LookFault, Watched, settled_copy};
 pub use source::read_source;
 pub use streams::{Input, Output};
+pub use system::System;
 pub use watching::copy_at;

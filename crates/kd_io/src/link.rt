@@ -72,27 +72,6 @@ pub struct Socket<'a> {
 }
 
 impl<'a> Socket<'a> {
-    /// Opens a link over a new socket at an address, a number in host order, and a port. It has not
-    /// failed, and may send to all hosts of its link.
-    ///
-    /// # Errors
-    ///
-    /// The socket cannot be opened.
-    pub fn bind(
-        rt: &'a HostRuntime,
-        address: u32,
-        port: u16,
-        sending: Sending,
-    ) -> Result<Socket<'a>, EndFailed>
-        ensures failed { IfOk result (λ link. link.failed ≡ false) }
-        ensures sending { IfOk result (λ link. link.sending ≡ sending) }
-    {
-        match UdpSocket::bind(rt, place_at(address, port)) {
-            Ok(socket) => Socket::to_all(rt, socket, sending),
-            Err(_) => Err(EndFailed),
-        }
-    }
-
     /// Makes a link over a socket that was handed over. It has not failed, and may send to all
     /// hosts of its link.
     ///
@@ -116,8 +95,12 @@ impl<'a> Socket<'a> {
         }
     }
 
-    // Makes a link over a socket that may send to all hosts of its link.
-    fn to_all(
+    /// Makes a link over a socket, which may then send to all hosts of its link. It has not failed.
+    ///
+    /// # Errors
+    ///
+    /// The system does not let it send to all hosts.
+    pub fn to_all(
         rt: &'a HostRuntime,
         socket: UdpSocket,
         sending: Sending,

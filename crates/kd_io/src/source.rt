@@ -48,7 +48,8 @@ fn read_part<R: Source>(
     requires chunk { 0 < length chunk.old }
     requires short { length text.old.items ≤ most }
     ensures short { IfOk result (λ more. length text.new.items ≤ most) }
-    ensures taken { IfOk result (λ more. GrowsByPart more (R.remaining source.old) (R.remaining source.new)
+    ensures taken { IfOk result
+        (λ more. GrowsByPart more (R.remaining source.old) (R.remaining source.new)
         text.old.items text.new.items) }
     ensures unread { result ≡ Err Unread → (R.has_failed source.new ≡ true)
         ⊎ ((all : List ℕ) → R.remaining source.old ≡ Some all

@@ -1,11 +1,13 @@
--- What a trial of a database or a socket can find. What the system gave is in no clause: which files
--- are at a path, which locks are held, and which ports are free.
-use Rattle.std.specs.Prelude.{◌≡◌, ℕ, ◌==◌, ◌||◌, Bool, IfErr, IsTrue, List, Err, Result, bytes_eq, codes, length, nat_eq}
+-- What a trial of a database or a socket finds. Which files are at a path, and which locks are held,
+-- is in no clause; what a system gives for an address and a port is a relation.
+use Rattle.std.specs.Prelude.{◌≡◌, ℕ, ◌==◌, ◌||◌, Bool, IfErr, IsOkAnd, IsTrue, List, Err, Ok, Result, bytes_eq, codes, length, nat_eq}
 use Rattle.std.specs.IoError.{error_kind}
 use Rattle.std.specs.List.{starts_with}
 use Rattle.std.specs.declared.io.Error.{Error}
 use Rattle.std.specs.declared.io.ErrorKind.{ErrorKind}
 use Rattle.std.specs.declared.io.ErrorKind.TheVariants as kinds
+use Rattle.std.specs.declared.net.udp.UdpSocket.{UdpSocket}
+use Rattle.kd_io.specs.declared.system.System.{Ghosts as Systems}
 use Rattle.kd_trouble.specs.declared.troubles.SocketTrouble.{SocketTrouble}
 use Rattle.kd_trouble.specs.declared.troubles.SocketTrouble.TheVariants as sockets
 use Rattle.kd_trouble.specs.declared.troubles.StoreTrouble.{StoreTrouble}
@@ -43,8 +45,16 @@ socket_trouble_of kinds.PermissionDenied = sockets.Denied
 socket_trouble_of kinds.AddrNotAvailable = sockets.NoSuchAddress
 socket_trouble_of kind = sockets.Other
 
--- what a trial of a socket finds: whether it has a route to all hosts of its link, or the trouble
--- that the error of opening it means
-abbrev pub IsSocketTrial : Result Bool SocketTrouble → Type 0
-IsSocketTrial answer =
-    IfErr answer (λ trouble. (error : Error) × (trouble ≡ socket_trouble_of (error_kind error)))
+-- over a system
+module _ {S : Type 0} (s : Systems S) where
+  -- what a trial finds of what came of opening a socket: whether it has a route to all hosts of its
+  -- link, or the trouble that the error means
+  abbrev pub IsFoundOf : S → Result UdpSocket Error → Result Bool SocketTrouble → Type 0
+  IsFoundOf system (Ok socket) answer = IsOkAnd answer (s.routes system socket)
+  IsFoundOf system (Err error) answer = answer ≡ Err (socket_trouble_of (error_kind error))
+
+  -- what a trial of a socket at an address and a port finds
+  abbrev pub IsSocketTrial : S → ℕ → ℕ → Result Bool SocketTrouble → Type 0
+  IsSocketTrial system address port answer =
+      (given : Result UdpSocket Error) × s.opens system address port given
+      × IsFoundOf system given answer

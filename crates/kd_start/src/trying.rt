@@ -8,8 +8,7 @@ ghost use Rattle.kd_start.specs.Words.{AreStartWords, IsConfigReport, IsFileReas
 
 use crate::tokens::token_files;
 use kd_check::config_report;
-use kd_event::Ports;
-use kd_io::{InputFault, MOST_BYTES, place_at, read_file};
+use kd_io::{InputFault, MOST_BYTES, System, read_file};
 use kd_json::ConfigFault;
 use kd_names::signs_of;
 use kd_trouble::{FileTrouble, SocketTrouble, StartFault, StoreTrouble};
@@ -18,13 +17,9 @@ use os::RangeLock;
 use std::alloc::{AllocError, Global};
 use std::fs::File;
 use std::io::{ErrorKind, Read};
-use std::net::UdpSocket;
 use std::os::fd::AsRawFd;
 use std::os::unix::fs::MetadataExt;
 use std::{fs, io};
-
-// 255.255.255.255.
-const ALL_HOSTS: u32 = 0xffff_ffff;
 
 // The bytes of a database that a process that opens it locks, as SQLite does: the first, and how
 // many.
@@ -388,17 +383,17 @@ fn c_path(path: &str) -> Option<[u8; PATH_MAX]>
     Some(text)
 }
 
-/// Reports whether a socket at an address, a number in host order, and a port could send to all
-/// hosts of its link: whether there is a route to 255.255.255.255. Nothing is sent.
+/// Reports whether a socket of a system at an address, a number in host order, and a port could
+/// send to all hosts of its link: whether there is a route to 255.255.255.255. Nothing is sent.
 ///
 /// # Errors
 ///
 /// The socket cannot be opened.
-pub fn try_socket(rt: &HostRuntime, address: u32, port: u16) -> Result<bool, SocketTrouble>
-    ensures { IsSocketTrial result }
+pub fn try_socket<S: System>(system: &S, address: u32, port: u16) -> Result<bool, SocketTrouble>
+    ensures { IsSocketTrial S.System system.now address port result }
 {
-    match UdpSocket::bind(rt, place_at(address, port)) {
-        Ok(socket) => Ok(reaches_all(&socket)),
+    match system.open(address, port) {
+        Ok(socket) => Ok(system.has_route(&socket)),
         Err(error) => Err(socket_trouble(error.kind())),
     }
 }
@@ -412,15 +407,5 @@ fn socket_trouble(kind: ErrorKind) -> SocketTrouble
         ErrorKind::PermissionDenied => SocketTrouble::Denied,
         ErrorKind::AddrNotAvailable => SocketTrouble::NoSuchAddress,
         _ => SocketTrouble::Other,
-    }
-}
-
-// Reports whether a socket has a route to all hosts of its link.
-fn reaches_all(socket: &UdpSocket) -> bool {
-    match socket.set_broadcast(true) {
-        Ok(()) => socket
-            .connect(place_at(ALL_HOSTS, Ports::STANDARD.client))
-            .is_ok(),
-        Err(_) => false,
     }
 }

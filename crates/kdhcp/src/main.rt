@@ -19,7 +19,7 @@ fn main(rt: HostRuntime) -> ExitCode {
     };
     let handed = inherited_socket(&rt);
     let stderr = rt.stderr();
-    let mut machine = Machine::of(&rt, version.as_str(), Unknown, handed);
+    let mut machine = Machine::of(&rt, &rt, version.as_str(), Unknown, handed);
     let mut ends = StandardEnds {
         input: Input::over(rt.reader()),
         output: Output::over(io::writer(&rt)),
