@@ -20,3 +20,4 @@ pub use classes::Classes;
 pub use definition::ClassDef;
 pub use fault::ClassFault;
 pub use option_list::{OptionData, OptionList};
+pub use order::is_built_in;

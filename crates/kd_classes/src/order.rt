@@ -13,8 +13,9 @@ fn is_named(name: &[u8], definitions: &[ClassDef]) -> bool
     definitions.iter().any(|def| name == def.name.as_slice())
 }
 
-// Reports whether a name is built in: a message can have it before any definition.
-fn is_built_in(name: &[u8]) -> bool
+/// Reports whether the name of a class is built in: a message can have it before any definition
+/// (Kea's classes `ALL` and `VENDOR_CLASS_` with a vendor class).
+pub fn is_built_in(name: &[u8]) -> bool
     ensures { result ≡ built_in name.now }
 {
     name == b"ALL".as_slice() || name.starts_with(b"VENDOR_CLASS_")

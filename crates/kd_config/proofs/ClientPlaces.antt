@@ -42,19 +42,6 @@ first_more test i (y ∷ xs) x = by (test y) (first_more test (i + 1) xs x) wher
   by true h = refl
   by false h = let next : i + 1 + length xs ≡ i + suc (length xs) = omega arith in h ∙ ap (λ n. option_or (position_from test (i + 1) xs) (if test x then Some n else None)) next
 
--- a client whose bytes are of the kind is the one with these bytes
-pub of_kind : (hardware : Bool) (identity : Identity) (own : List ℕ) → bytes_of_kind hardware identity ≡ Some own → (bytes : List ℕ) → is_client hardware bytes identity ≡ bytes_eq bytes own
-of_kind true (Hardware own) b is bytes = ap (bytes_eq bytes) (same_Some own b is)
-of_kind false (ClientId own) b is bytes = ap (bytes_eq bytes) (same_Some own b is)
-of_kind true (ClientId own) b is bytes = absurd (none-some b is)
-of_kind false (Hardware own) b is bytes = absurd (none-some b is)
-
-pub of_other_kind : (hardware : Bool) (identity : Identity) → bytes_of_kind hardware identity ≡ None → (bytes : List ℕ) → is_client hardware bytes identity ≡ false
-of_other_kind true (Hardware own) is bytes = absurd (none-some own (sym is))
-of_other_kind false (ClientId own) is bytes = absurd (none-some own (sym is))
-of_other_kind true (ClientId own) is bytes = refl
-of_other_kind false (Hardware own) is bytes = refl
-
 -- a place that is found is not before the start
 from_start : {X : Type 0} (test : X → Bool) (i : ℕ) (xs : List X) (k : ℕ) → position_from test i xs ≡ Some k → i ≤ k
 from_start test i [] k is = absurd (none-some k is)

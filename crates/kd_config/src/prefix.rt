@@ -18,6 +18,14 @@ impl Prefix {
         1 << 32u8.saturating_sub(self.length)
     }
 
+    /// Returns the last address of the prefix, in host order. It may exceed 32 bits, because the
+    /// first address may be any.
+    pub fn last(self) -> u64
+        ensures { result ≡ self.address + (prefix_size self.length - 1) }
+    {
+        u64::from(self.address) + (self.size() - 1)
+    }
+
     /// Reports whether an address, in host order, is in the prefix.
     pub fn contains(self, address: u32) -> bool
         ensures { result ≡ has_address self address }

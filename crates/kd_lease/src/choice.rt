@@ -3,11 +3,11 @@ ghost use Rattle.kd_lease.specs.Choice.Rank.{asked, reserved};
 ghost use Rattle.kd_lease.specs.Rules.{IsChosen, asking};
 ghost use Rattle.kd_lease.specs.Ranks.{IsRanked};
 
-use crate::choosing::Choosing;
-use crate::fitting::{fits_with, is_free, requested_of};
-use crate::pooling::pool_choice;
+use crate::candidates::Choosing;
+use crate::fits::{fits_with, is_free, requested_of};
+use crate::pools::pool_choice;
 use crate::question::Question;
-use crate::seeking::newest_known;
+use crate::search::newest_known;
 use kd_config::Subnet;
 
 // Returns the address that a client is offered in a subnet, if there is one (RFC 2131 section

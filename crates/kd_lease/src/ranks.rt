@@ -2,10 +2,10 @@ ghost use Rattle.kd_lease.specs.Ranks.{AreRanks};
 ghost use Rattle.kd_lease.specs.Rules.{asking};
 
 use crate::choice::{asked_for, kept_address};
-use crate::choosing::Choosing;
-use crate::pooling::pool_choice;
+use crate::candidates::Choosing;
+use crate::pools::pool_choice;
 use crate::question::Question;
-use crate::seeking::{newest_own, newest_past};
+use crate::search::{newest_own, newest_past};
 use kd_config::Subnet;
 
 /// The ranks of addresses, the strongest first, and the first address of each rank for a client in

@@ -1,12 +1,11 @@
 ghost use Rattle.std.specs.Prelude.{◌≡◌, ◌++◌, ◌||◌, Bool, OnOk, Result, is_some, option_copied, option_map, string_bytes};
 ghost use Rattle.std.specs.List.{flat_map, list_any};
-ghost use Rattle.kd_classes.specs.Order.{built_in};
 ghost use Rattle.kd_trouble.specs.declared.troubles.SocketTrouble.{SocketTrouble};
 ghost use Rattle.kd_program.specs.Advice.{IsFoundMissing, advice_lines, asks_relay, class_trouble, def_asks, defined, is_absent, last_of, network_lines, pool_advice, pool_note};
 ghost use Rattle.kd_program.specs.Advice.{pool_text, required_trouble, server_advice, server_text, subnet_advice, subnet_note, subnet_text, test_asks};
 
 use crate::host::Host;
-use kd_classes::{ClassDef, Classes};
+use kd_classes::{ClassDef, Classes, is_built_in};
 use kd_config::{Config, Pool, Prefix, Subnet};
 use kd_text::{put_address, put_prefix};
 use kd_token::{Token, Verified};
@@ -188,13 +187,6 @@ fn trouble_with(classes: &Classes, class: &[u8]) -> Option<&'static str>
     None
 }
 
-// Reports whether a class is built in: a message can be in it before any definition.
-fn is_built_in(name: &[u8]) -> bool
-    ensures { result ≡ built_in name.now }
-{
-    name == b"ALL".as_slice() || name.starts_with(b"VENDOR_CLASS_")
-}
-
 // Returns the definition of a class, if there is one.
 #[tactic(auto, using(crate::proofs::Defining::defined_later, crate::proofs::Defining::defined_here, crate::proofs::Defining::defined_nowhere, crate::proofs::Defining::defined_past))]
 fn defined_in<'a>(classes: &'a Classes, name: &[u8]) -> Option<&'a ClassDef>
@@ -304,8 +296,7 @@ fn put_network(text: &mut String, name: &str, prefix: Prefix, pool: &Pool) -> Re
 fn last_address(prefix: Prefix) -> u32
     ensures { result ≡ last_of prefix }
 {
-    let last = u64::from(prefix.address) + prefix.size() - 1;
-    last.min(u64::from(u32::MAX)) as u32
+    prefix.last().min(u64::from(u32::MAX)) as u32
 }
 
 // Prints a line if an address is in a pool.

@@ -1,5 +1,0 @@
-use Rattle.kd_lease.proofs.Aged.{past_ranked}
-use Rattle.kd_lease.proofs.seeking.newest_past.Goals as goal
-
-pub returns : goal.returns
-returns c = past_ranked c.args.choosing c.newest.result c.newest.ensures

@@ -1,0 +1,133 @@
+ghost use Rattle.std.specs.Prelude.{◌≡◌, Some};
+ghost use Rattle.std.specs.List.{find};
+ghost use Rattle.std.specs.Option.{option_copied};
+ghost use Rattle.kd_config.specs.Address.{has_address};
+ghost use Rattle.kd_lease.specs.Choice.{fitting_for, free_for};
+ghost use Rattle.kd_lease.specs.Rules.{asking, client_has, ending, fails, held_at, holds_at, known_in, passes, passes_in, serving_subnet};
+
+use crate::fits::{fits, is_free};
+use crate::matter::Matter;
+use crate::question::Question;
+use crate::rule::{Check, Ending, Line};
+use crate::search::{is_client_at, is_held_at, knows_client};
+use crate::server::{names_other, server_of};
+use kd_config::Subnet;
+
+/// Returns how a message ends: as the first check of its rule that it does not pass says, or if it
+/// passes them all, as the rule does (RFC 2131 section 4.3).
+pub fn ending_of(matter: &Matter<'_>) -> Ending
+    ensures { result
+        ≡ ending (asking matter.now.question.now) matter.now.address matter.now.rule }
+{
+    match failing_line(matter, matter.rule.checks()) {
+        Some(line) => line.1,
+        None => matter.rule.end(),
+    }
+}
+
+// Returns the first line of a list whose check the message does not pass.
+fn failing_line<'a>(matter: &Matter<'_>, lines: &'a [Line]) -> Option<&'a Line>
+    ensures { option_copied result
+        ≡ find (fails (asking matter.now.question.now) matter.now.address) lines.now }
+{
+    lines.iter().find(|line| is_failing(matter, line))
+}
+
+// Reports whether the message does not pass the check of a line.
+fn is_failing(matter: &Matter<'_>, line: &Line) -> bool
+    ensures { result ≡ fails (asking matter.now.question.now) matter.now.address line.now }
+{
+    !holds(matter, line.0)
+}
+
+/// Reports whether a message passes a check.
+pub fn holds(matter: &Matter<'_>, check: Check) -> bool
+    ensures { result ≡ holds_at (asking matter.now.question.now) matter.now.address check }
+{
+    let Matter {
+        question,
+        address,
+        ..
+    } = *matter;
+    match check {
+        Check::Server => !names_other(question.config.server(), server_of(question.message)),
+        Check::Address => address.is_some(),
+        Check::Choice => address.is_some(),
+        Check::Subnet => question.subnet.is_some(),
+        Check::Prefix => is_in_prefix(question, address),
+        Check::Client => is_known(question),
+        Check::Owner => is_own(question, address),
+        Check::Fits => is_fitting(question, address),
+        Check::Free => is_free_at(question, address),
+        Check::Held => is_held(question, address),
+    }
+}
+
+// Reports whether the prefix of the subnet that serves the message contains an address.
+fn is_in_prefix(question: &Question<'_>, address: Option<u32>) -> bool
+    ensures { result
+        ≡ passes_in (λ s a. has_address s.prefix a) (serving_subnet (asking question.now)) address }
+{
+    match (question.subnet, address) {
+        (Some(subnet), Some(address)) => subnet.prefix.contains(address),
+        _ => false,
+    }
+}
+
+// Reports whether a subnet serves the message and the client has a row in its prefix.
+fn is_known(question: &Question<'_>) -> bool
+    ensures { let q = asking question.now in result ≡ known_in q (serving_subnet q) }
+{
+    match question.subnet {
+        Some(subnet) => is_known_in(question, subnet),
+        None => false,
+    }
+}
+
+// Reports whether the client has a row in a subnet's prefix.
+fn is_known_in(question: &Question<'_>, subnet: &Subnet) -> bool
+    ensures { result ≡ known_in (asking question.now) (Some subnet.now) }
+{
+    knows_client(question, subnet)
+}
+
+// Reports whether there is an address and its row is the client's.
+fn is_own(question: &Question<'_>, address: Option<u32>) -> bool
+    ensures { result ≡ passes (client_has (asking question.now)) address }
+{
+    match address {
+        Some(address) => is_client_at(question, address),
+        None => false,
+    }
+}
+
+// Reports whether an address fits in the subnet that serves the message.
+fn is_fitting(question: &Question<'_>, address: Option<u32>) -> bool
+    ensures { let q = asking question.now in
+        result ≡ passes_in (fitting_for q) (serving_subnet q) address }
+{
+    match (question.subnet, address) {
+        (Some(subnet), Some(address)) => fits(question, subnet, address),
+        _ => false,
+    }
+}
+
+// Reports whether there is an address and it is free for the client.
+fn is_free_at(question: &Question<'_>, address: Option<u32>) -> bool
+    ensures { result ≡ passes (free_for (asking question.now)) address }
+{
+    match address {
+        Some(address) => is_free(question, address),
+        None => false,
+    }
+}
+
+// Reports whether there is an address and the client holds it.
+fn is_held(question: &Question<'_>, address: Option<u32>) -> bool
+    ensures { result ≡ passes (held_at (asking question.now)) address }
+{
+    match address {
+        Some(address) => is_held_at(question, address),
+        None => false,
+    }
+}
