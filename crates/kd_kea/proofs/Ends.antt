@@ -10,15 +10,6 @@ pub string_closed : (b : ℕ) (bytes : List ℕ) → (b == 34) ≡ true → stri
 string_closed b [] h = refl
 string_closed b (c ∷ bytes) h = rw h refl
 
--- a backslash takes a byte along
-pub string_escaped : (b c : ℕ) (bytes : List ℕ) → (b == 34) ≡ false → (b == 92) ≡ true → string_size (b ∷ c ∷ bytes) ≡ 2 + string_size bytes
-string_escaped b c bytes other is = rw (other, is) refl
-
--- another byte, or a backslash at the end
-pub string_more : (b : ℕ) (bytes : List ℕ) → (b == 34) ≡ false → (b == 92) ≡ false → string_size (b ∷ bytes) ≡ 1 + string_size bytes
-string_more b [] other plain = refl
-string_more b (c ∷ bytes) other plain = rw (other, plain) refl
-
 -- a string has no more bytes than the text
 pub string_within : (bytes : List ℕ) → string_size bytes ≤ length bytes
 string_within [] = omega arith

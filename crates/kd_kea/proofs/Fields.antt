@@ -18,17 +18,6 @@ name_read out field name names is =
     ap (λ (o : Option FieldType). option_map (λ w. out ++ w) (option_and_then (λ first. option_and_then (λ others. Some (first ∷ others)) (types_in names)) o)) is
     ∙ behind_first out field (types_in names)
 
--- the last name
-pub last_name_read : (out : List FieldType) (field : FieldType) (name : List ℕ) → lookup (bytes_eq (trimmed name)) field_types ≡ Some field
-    → option_map (λ w. out ++ w) (types_in (name ∷ [])) ≡ Some (out ++ field ∷ [])
-last_name_read out field name is = name_read out field name [] is ∙ ap Some (append-nil (out ++ field ∷ []))
-
--- a name of no type
-pub name_refused : (out : List FieldType) (name : List ℕ) (names : List (List ℕ)) → lookup (bytes_eq (trimmed name)) field_types ≡ None
-    → option_map (λ w. out ++ w) (types_in (name ∷ names)) ≡ None
-name_refused out name names is =
-    ap (λ (o : Option FieldType). option_map (λ w. out ++ w) (option_and_then (λ first. option_and_then (λ others. Some (first ∷ others)) (types_in names)) o)) is
-
 -- the usual definitions follow others
 pub usual_follow : (definitions : List Definition) → (definitions ++ usual_vendor ∷ []) ++ standard_records ≡ definitions ++ usual_vendor ∷ standard_records
 usual_follow definitions = append_assoc definitions (usual_vendor ∷ []) standard_records

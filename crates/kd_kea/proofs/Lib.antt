@@ -18,6 +18,7 @@ pub mod SoundKea
 pub mod Whole
 pub mod Noted
 pub mod NoUnknown
+pub mod NoneWrong
 pub mod WorkedNotes
 pub mod WorkedNames
 pub mod Shares

@@ -25,6 +25,3 @@ three_joined old a b c n1 n2 n3 e f g = two_joined old (a ++ b) c n2 n3 (two_joi
 
 pub four_joined : (old a b c d n1 n2 n3 n4 : List KeyNote) → n1 ≡ old ++ a → n2 ≡ n1 ++ b → n3 ≡ n2 ++ c → n4 ≡ n3 ++ d → n4 ≡ old ++ (a ++ b ++ c ++ d)
 four_joined old a b c d n1 n2 n3 n4 e f g h = two_joined old (a ++ b ++ c) d n3 n4 (three_joined old a b c n1 n2 n3 e f g) h
-
-pub five_joined : (old a b c d x n1 n2 n3 n4 n5 : List KeyNote) → n1 ≡ old ++ a → n2 ≡ n1 ++ b → n3 ≡ n2 ++ c → n4 ≡ n3 ++ d → n5 ≡ n4 ++ x → n5 ≡ old ++ (a ++ b ++ c ++ d ++ x)
-five_joined old a b c d x n1 n2 n3 n4 n5 e f g h i = two_joined old (a ++ b ++ c ++ d) x n4 n5 (four_joined old a b c d n1 n2 n3 n4 e f g h) i

@@ -62,13 +62,3 @@ half_is = refl
 eighths_are : SEVEN_EIGHTHS ≡ fin false 7 (negsuc 2)
 unfolding of_bits
 eighths_are = refl
-
-pub half_of : (n : ℕ) → n ≤ longest_lease → share_of HALF n ≡ (n + 1) / 2
-half_of n small =
-    ap (λ x. share_of x n) half_is
-    ∙ exact_share 1 0 1073 n ((n + 1) / 2) (omega (arith, small)) (omega arith) refl (omega (arith, small)) (omega arith) (omega (arith, small))
-
-pub eighths_of : (n : ℕ) → n ≤ longest_lease → share_of SEVEN_EIGHTHS n ≡ (n * 7 + 4) / 8
-eighths_of n small =
-    ap (λ x. share_of x n) eighths_are
-    ∙ exact_share 7 2 1071 n ((n * 7 + 4) / 8) (omega (arith, small)) (omega arith) refl (omega (arith, small)) (omega arith) (omega (arith, small))

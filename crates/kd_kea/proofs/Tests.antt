@@ -10,24 +10,6 @@ use Rattle.serde_json.specs.declared.value.Value.{Value}
 use Rattle.serde_json.specs.Find.{as_array, as_bool, as_number, as_str, as_u64}
 use Rattle.kd_kea.specs.Keys.{flag, is_plain, no_list, whole, word}
 
-pub flag_is : (a : Bool) (d : Data) → is_plain (flag a) d ≡ option_map_or (beq a) (as_bool d) false
-flag_is a null = refl
-flag_is a (boolean b) = refl
-flag_is a (number n) = refl
-flag_is a (string s) = refl
-flag_is a (array ds) = refl
-flag_is a (object ms) = refl
-
-pub whole_is : (n : ℕ) (d : Data) → is_plain (whole n) d ≡ option_map_or (λ m. n == m) (option_and_then as_u64 (as_number d)) false
-whole_is n null = refl
-whole_is n (boolean b) = refl
-whole_is n (number (unsigned m)) = refl
-whole_is n (number (negative z)) = refl
-whole_is n (number (float x)) = refl
-whole_is n (string s) = refl
-whole_is n (array ds) = refl
-whole_is n (object ms) = refl
-
 pub word_is : (text : List ℕ) (d : Data) → is_plain (word text) d ≡ option_map_or (bytes_eq text) (as_str d) false
 word_is text null = refl
 word_is text (boolean b) = refl

@@ -13,7 +13,3 @@ grows_trans None mid new a b first then = subst (λ (m : Option (List Happening)
 grows_trans (Some old) None new a b first then = subst (λ (n : Option (List Happening)). Grows (Some old) n (a ++ b)) (sym then) tt
 grows_trans (Some old) (Some mid) None a b first then = tt
 grows_trans (Some old) (Some mid) (Some new) a b first then = then ∙ ap (λ m. m ++ b) first ∙ append_assoc old a b
-
--- nothing happens, and then something
-pub grows_after : (old mid new : Option (List Happening)) (a : List Happening) → mid ≡ old → Grows mid new a → Grows old new a
-grows_after old mid new a same grows = subst (λ (m : Option (List Happening)). Grows m new a) same grows

@@ -76,15 +76,6 @@ pub record Begun (all ahead : List ℕ) (left : Option (List ℕ)) (line : List 
   pub whole : all ≡ line ++ (ahead ++ rest)
   pub plain : HasNo 10 line
 
-pub begun_none : (all ahead : List ℕ) (left : Option (List ℕ)) (line : List ℕ) → prepend_known ahead left ≡ Some all → line ≡ [] → Begun all ahead left line
-begun_none all ahead None line e none = absurd (cc)
-begun_none all ahead (Some rest) line e none = record {
-  rest = rest;
-  known = refl;
-  whole = rw none (cc);
-  plain = rw none tt;
-}
-
 pub begun_read : {all ahead : List ℕ} {left : Option (List ℕ)} {line : List ℕ} (ahead' : List ℕ) (left' : Option (List ℕ)) → Begun all ahead left line → Consumes (prepend_known ahead left) (prepend_known ahead' left') [] → Begun all ahead' left' line
 begun_read {all} {ahead} {left} {line} ahead' left' p read =
     let e : prepend_known ahead left ≡ Some (ahead ++ p.rest) = ap (prepend_known ahead) p.known in

@@ -13,9 +13,6 @@ use Rattle.kd_loops.specs.declared.happening.Happening.{Happening}
 use Rattle.kd_loops.proofs.Growing.{grows_none, grows_trans}
 use Rattle.kd_loops.proofs.Written.{cut_at}
 
-pub told_none : (trace : Option (List Happening)) (old : Option (List ℕ)) → AreTold [] trace trace old old
-told_none trace old = record { told = []; are = refl; grows = grows_none trace; appended = Appends-nil old }
-
 module _ (list : List Handled) (i : ℕ) (handled : Handled) (less : i < length list) (is : handled ≡ get_or list i handled)
     (trace between gone : Option (List Happening)) (old mid new : Option (List ℕ)) (before : AreTold (take i list) trace between old mid) where
   -- what is handed over of those before, and of one more

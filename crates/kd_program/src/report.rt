@@ -230,7 +230,8 @@ fn put_store(text: &mut String, name: &str, store: &StoreFinding) -> Result<(), 
 // Prints what was found out about a store, without its name.
 #[tactic(auto, unfolding(crate::specs::Report::finding_text))]
 fn put_finding(text: &mut String, store: &StoreFinding) -> Result<(), AllocError>
-    ensures { OnOk result (string_bytes text.new ≡ string_bytes text.old ++ finding_text store.now) }
+    ensures { OnOk result
+        (string_bytes text.new ≡ string_bytes text.old ++ finding_text store.now) }
 {
     match store {
         StoreFinding::Unasked => Ok(()),

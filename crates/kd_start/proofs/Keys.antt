@@ -11,18 +11,6 @@ use Rattle.kd_start.specs.KeaWords.{is_refused_at, is_unknown, line_of_kind, mor
 
 -- ---- the keys that are skipped
 
--- the lines up to the next key
-pub skipped_more : (name : List ℕ) (notes : List Note) (i : ℕ) (d : Note) → i < length notes
-    → skipped_lines name (map note_of (take (i + 1) notes))
-    ≡ skipped_lines name (map note_of (take i notes)) ++ line_of_kind name (string_bytes (get_or notes i d).path) (get_or notes i d).kind
-skipped_more name notes i d here =
-    let line : KeyNote → List ℕ = λ note. line_of_kind name note.0 note.1 in
-    let next = get_or notes i d in
-    ap (λ (some : List Note). skipped_lines name (map note_of some)) (take_more notes i d here)
-    ∙ ap (λ (some : List KeyNote). skipped_lines name some) (map-append note_of (take i notes) (next ∷ []))
-    ∙ flat_map-append line (map note_of (take i notes)) (note_of next ∷ [])
-    ∙ ap (λ (end : List ℕ). skipped_lines name (map note_of (take i notes)) ++ end) (append-nil (line (note_of next)))
-
 -- ---- the keys that are refused
 
 -- the paths of the notes in memory that pass a test
@@ -85,16 +73,6 @@ of_refused note = is_unknown note.1
 -- the paths of the refused keys of notes in memory
 abbrev pub paths_in : List Note → List (List ℕ)
 paths_in notes = refused_paths (map note_of notes)
-
--- the next key is refused
-pub paths_grow : (notes : List Note) (i : ℕ) (d : Note) → i < length notes → is_unknown (get_or notes i d).kind ≡ true
-    → paths_in (take (i + 1) notes) ≡ paths_in (take i notes) ++ string_bytes (get_or notes i d).path ∷ []
-paths_grow notes i d here is = some_grow of_refused notes i d here is
-
--- the next key is not refused
-pub paths_stay : (notes : List Note) (i : ℕ) (d : Note) → i < length notes → is_unknown (get_or notes i d).kind ≡ false
-    → paths_in (take (i + 1) notes) ≡ paths_in (take i notes)
-paths_stay notes i d here is = some_stay of_refused notes i d here is
 
 -- the lines about these paths
 abbrev pub places : List ℕ → List ℕ → List ℕ → List (List ℕ) → List ℕ

@@ -43,7 +43,8 @@ pub fn kea_start_words(
     server: Option<u32>,
     fault: &StartFault,
 ) -> Result<String, AllocError>
-    ensures { IfOk result (λ words. AreKeaStartWords path.now server fault.now (string_bytes words)) }
+    ensures { IfOk result
+        (λ words. AreKeaStartWords path.now server fault.now (string_bytes words)) }
 {
     match fault {
         StartFault::Input(_) => start_words(rt, Some(path), None, fault),

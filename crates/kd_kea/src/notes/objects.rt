@@ -203,7 +203,8 @@ fn note_subnet_keys(
     path: &str,
     around: Around,
 ) -> Result<(), AllocError>
-    ensures { OnOk result (notes.new ≡ notes.old ++ (own_notes subnet_keys path.now (view subnet.now)
+    ensures { OnOk result
+        (notes.new ≡ notes.old ++ (own_notes subnet_keys path.now (view subnet.now)
         ++ subnet_values around path.now (view subnet.now)
         ++ subnet_own path.now (view subnet.now))) }
 {

@@ -162,7 +162,8 @@ fn is_small(response: &Response) -> bool
 // Reports whether a line, with a line feed, is what is written for a handled event.
 fn is_written(alloc: Global, handled: &Handled, line: &[u8]) -> Result<bool, AllocError>
     requires { IsSmall handled.now.response }
-    ensures { IfOk result (λ same. IsTrue same ↔ (line_of handled.entry.now ≡ line.now ++ 10 ∷ [])) }
+    ensures { IfOk result
+        (λ same. IsTrue same ↔ (line_of handled.entry.now ≡ line.now ++ 10 ∷ [])) }
 {
     let text = event_line(alloc, handled)?;
     match text.as_slice().split_last() {
