@@ -1,5 +1,5 @@
 -- The first bytes that pass a test, and what follows them.
-use Rattle.std.proofs.Common.{◌≡◌, ℕ, ◌+◌, Bool, true, false, cond, ◌||◌, ◌&&◌, List, [], ◌∷◌, ◌++◌, take, drop, refl, ap, if◌then◌else◌, one-add}
+use Rattle.std.proofs.Common.{◌≡◌, ℕ, ◌+◌, Bool, true, false, cond, ◌&&◌, List, [], ◌∷◌, ◌++◌, take, drop, refl, ap, if◌then◌else◌, one-add}
 use Rattle.std.specs.List.{prefix_len}
 use Rattle.kd_expr.specs.Address.{Each}
 use Rattle.kd_expr.specs.Lexical.{WordEnds}
@@ -83,11 +83,6 @@ all_pass_each p (b ∷ bytes) h = rw h.0 (all_pass_each p bytes h.1)
 pub each_weaker : (p q : ℕ → Bool) → ((b : ℕ) → p b ≡ true → q b ≡ true) → (bytes : List ℕ) → Each p bytes → Each q bytes
 each_weaker p q w [] _ = tt
 each_weaker p q w (b ∷ bytes) h = (w b h.0, each_weaker p q w bytes h.1)
-
--- one of two tests
-pub one_of_two : (a b : Bool) → (a || b) ≡ true → (C : Type 0) → (a ≡ true → C) → (b ≡ true → C) → C
-one_of_two true b e C f g = f refl
-one_of_two false b e C f g = g e
 
 -- both of two tests
 pub both_of_two : (a b : Bool) → (a && b) ≡ true → (a ≡ true) × (b ≡ true)

@@ -1,7 +1,7 @@
 -- The lexer, computed: which word bytes begin with, and which tokens a text has. Proofs tie it to
 -- the definition of words. Public contracts cite only `address_read` of it, the address that a text
 -- gives: by the clauses of `read_address` this is the one of `IsAddress` (`Address.antt`) if there
--- is one, and otherwise there is none. kd_config uses `behind_of` to say what follows blanks.
+-- is one, and otherwise there is none. kd_values uses `behind_of` to say what follows blanks.
 use Rattle.std.specs.Prelude.{ℕ, zero, suc, ◌+◌, ◌-◌, Bool, true, false, ◌&&◌, ◌==◌, nat_le, List, [], ◌∷◌, length, Option, Some, None, if◌then◌else◌}
 use Rattle.kd_expr.specs.Address.{a_digit, decimal}
 use Rattle.kd_expr.specs.Lexical.{Lexeme, StringAt, HexAt, AddressAt, NumberAt, MinusAt, NameAt, SignAt, BadAt, a_blank, a_letter, is_hex_digit, a_sign, is_x, in_string, in_run, in_name}

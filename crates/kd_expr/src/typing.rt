@@ -1,6 +1,6 @@
-ghost use Rattle.std.specs.Prelude.{◌≡◌, ◌<◌, ◌^◌};
+ghost use Rattle.std.specs.Prelude.{◌≡◌, ◌<◌, ◌^◌, Ok};
 ghost use Rattle.kd_expr.specs.Size.{node_count};
-ghost use Rattle.kd_expr.specs.Typing.{field_type, type_of, test_type, want_bool, want_bytes, want_int};
+ghost use Rattle.kd_expr.specs.Typing.{andthen, field_type, type_of, test_type, want_bool, want_bytes, want_int};
 ghost use Rattle.kd_expr.specs.Tree.{at_of};
 ghost use Rattle.kd_expr.specs.View.{tree_of};
 
@@ -40,30 +40,16 @@ pub(crate) fn type_of_node(node: &Node) -> Result<ValueType, TypeFault>
             bool_operand(right)?;
             Ok(ValueType::Bool)
         }
-        Node::Equal { left, right, .. } => {
-            bytes_operand(left)?;
-            bytes_operand(right)?;
-            Ok(ValueType::Bool)
-        }
-        Node::Concat { left, right, .. } => {
-            bytes_operand(left)?;
-            bytes_operand(right)?;
-            Ok(ValueType::Bytes)
-        }
+        Node::Equal { left, right, .. } => type_over_bytes(left, right, ValueType::Bool),
+        Node::Concat { left, right, .. } => type_over_bytes(left, right, ValueType::Bytes),
         Node::HexString {
             operand,
             separator,
             ..
-        } => {
-            bytes_operand(operand)?;
-            bytes_operand(separator)?;
-            Ok(ValueType::Bytes)
-        }
+        } => type_over_bytes(operand, separator, ValueType::Bytes),
         Node::IfElse { test, yes, no, .. } => {
             bool_operand(test)?;
-            bytes_operand(yes)?;
-            bytes_operand(no)?;
-            Ok(ValueType::Bytes)
+            type_over_bytes(yes, no, ValueType::Bytes)
         }
         Node::Substring { operand, .. }
         | Node::Lower { operand, .. }
@@ -76,6 +62,19 @@ pub(crate) fn type_of_node(node: &Node) -> Result<ValueType, TypeFault>
             Ok(ValueType::Bytes)
         }
     }
+}
+
+// Returns `own`, the type of an expression, if its last two operands are byte strings; otherwise
+// the first fault of these.
+#[cycle(typing)]
+fn type_over_bytes(left: &Node, right: &Node, own: ValueType) -> Result<ValueType, TypeFault>
+    ensures { result
+        ≡ andthen (want_bytes (at_of (tree_of left.now)) (type_of (tree_of left.now)))
+        (andthen (want_bytes (at_of (tree_of right.now)) (type_of (tree_of right.now))) (Ok own)) }
+{
+    bytes_operand(left)?;
+    bytes_operand(right)?;
+    Ok(own)
 }
 
 // Checks an operand that must be a truth value.
