@@ -2,6 +2,7 @@ ghost use Rattle.std.specs.Prelude.{[], ◌≡◌, ◌≤◌, ◌++◌, ◌∷�
 ghost use Rattle.std.specs.List.{position};
 ghost use Rattle.kd_compile.specs.Measures.{names, names_after, token_count};
 ghost use Rattle.kd_compile.specs.Tokens.{code_of, in_bytes, index_of};
+ghost use Rattle.kd_expr.specs.Tree.{IfElse};
 ghost use Rattle.kd_expr.specs.View.{tree_of};
 ghost use Rattle.kd_machine.specs.Held.{with_name};
 ghost use Rattle.kd_machine.specs.Parts.{is_held, same};
@@ -151,18 +152,9 @@ pub(crate) fn put_code(
         Node::Field { field, .. } => put(out, Token::PushField(*field)),
         Node::OptionExists { code, .. } => put(out, Token::OptionExists(*code)),
         Node::RelayExists { code, .. } => put(out, Token::RelayExists(*code)),
-        Node::Member { name, .. } => {
-            put(out, Token::Member(place(name.as_slice(), names) as u8))
-        }
-        Node::Equal { left, right, .. } => {
-            put_bytes(alloc, left, names, out)?;
-            put_bytes(alloc, right, names, out)?;
-            put(out, Token::Equal)
-        }
-        Node::Not { operand, .. } => {
-            put_code(alloc, operand, names, out)?;
-            put(out, Token::Not)
-        }
+        Node::Member { name, .. } => put(out, Token::Member(place(name.as_slice(), names) as u8)),
+        Node::Equal { left, right, .. } => put_both(alloc, left, right, names, out, Token::Equal),
+        Node::Not { operand, .. } => put_then(alloc, operand, names, out, Token::Not),
         Node::And { left, right, .. } => {
             put_code(alloc, left, names, out)?;
             put(out, Token::BranchFalseElsePop(tokens(right) as u16))?;
@@ -174,49 +166,108 @@ pub(crate) fn put_code(
             put_code(alloc, right, names, out)
         }
         Node::Group { operand, .. } => put_code(alloc, operand, names, out),
-        Node::Concat { left, right, .. } => {
-            put_bytes(alloc, left, names, out)?;
-            put_bytes(alloc, right, names, out)?;
-            put(out, Token::Concat)
-        }
-        Node::IfElse { test, yes, no, .. } => {
-            put_code(alloc, test, names, out)?;
-            let yes_tokens = tokens(yes) + four(yes) + 1;
-            put(out, Token::PopBranchFalse(yes_tokens as u16))?;
-            put_bytes(alloc, yes, names, out)?;
-            let no_tokens = tokens(no) + four(no);
-            put(out, Token::Branch(no_tokens as u16))?;
-            put_bytes(alloc, no, names, out)
-        }
+        Node::Concat { left, right, .. } => put_both(alloc, left, right, names, out, Token::Concat),
+        Node::IfElse { test, yes, no, .. } => put_choice(alloc, test, yes, no, names, out),
         Node::Substring {
             operand,
             start,
-            length,
+            length: count,
             ..
-        } => {
-            put_bytes(alloc, operand, names, out)?;
-            put(out, Token::Substring(*start, *length))
-        }
+        } => put_bytes_then(alloc, operand, names, out, Token::Substring(*start, *count)),
         Node::HexString {
             operand,
             separator,
             ..
-        } => {
-            put_bytes(alloc, operand, names, out)?;
-            put_bytes(alloc, separator, names, out)?;
-            put(out, Token::HexString)
-        }
-        Node::Lower { operand, .. } => {
-            put_bytes(alloc, operand, names, out)?;
-            put(out, Token::Lower)
-        }
-        Node::Upper { operand, .. } => {
-            put_bytes(alloc, operand, names, out)?;
-            put(out, Token::Upper)
-        }
-        Node::IntToText { operand, .. } => {
-            put_code(alloc, operand, names, out)?;
-            put(out, Token::IntToText)
-        }
+        } => put_both(alloc, operand, separator, names, out, Token::HexString),
+        Node::Lower { operand, .. } => put_bytes_then(alloc, operand, names, out, Token::Lower),
+        Node::Upper { operand, .. } => put_bytes_then(alloc, operand, names, out, Token::Upper),
+        Node::IntToText { operand, .. } => put_then(alloc, operand, names, out, Token::IntToText),
     }
+}
+
+// Appends the tokens of an operand, then a token.
+#[cycle(code)]
+fn put_then(
+    alloc: Global,
+    operand: &Node,
+    names: &[Bytes],
+    out: &mut Vec<Token>,
+    token: Token,
+) -> Result<(), AllocError>
+    requires few { token_count (tree_of operand.now) ≤ 1024 }
+    requires named { length names.now ≤ 64 }
+    ensures { OnOk result
+        (out.new.items ≡ out.old.items ++ code_of names.now (tree_of operand.now) ++ token ∷ []) }
+{
+    put_code(alloc, operand, names, out)?;
+    put(out, token)
+}
+
+// Appends the tokens of an operand where a byte string is needed, then a token.
+#[cycle(code)]
+fn put_bytes_then(
+    alloc: Global,
+    operand: &Node,
+    names: &[Bytes],
+    out: &mut Vec<Token>,
+    token: Token,
+) -> Result<(), AllocError>
+    requires few { token_count (tree_of operand.now) ≤ 1024 }
+    requires named { length names.now ≤ 64 }
+    ensures { OnOk result
+        (out.new.items ≡ out.old.items ++ code_of names.now (tree_of operand.now)
+        ++ in_bytes (tree_of operand.now) ++ token ∷ []) }
+{
+    put_bytes(alloc, operand, names, out)?;
+    put(out, token)
+}
+
+// Appends the tokens of two operands where byte strings are needed, then a token.
+#[cycle(code)]
+fn put_both(
+    alloc: Global,
+    left: &Node,
+    right: &Node,
+    names: &[Bytes],
+    out: &mut Vec<Token>,
+    token: Token,
+) -> Result<(), AllocError>
+    requires few_left { token_count (tree_of left.now) ≤ 1024 }
+    requires few_right { token_count (tree_of right.now) ≤ 1024 }
+    requires named { length names.now ≤ 64 }
+    ensures { OnOk result
+        (out.new.items ≡ out.old.items ++ code_of names.now (tree_of left.now)
+        ++ in_bytes (tree_of left.now)
+        ++ (code_of names.now (tree_of right.now) ++ in_bytes (tree_of right.now)) ++ token ∷ []) }
+{
+    put_bytes(alloc, left, names, out)?;
+    put_bytes(alloc, right, names, out)?;
+    put(out, token)
+}
+
+// Appends the tokens of an `ifelse`.
+#[cycle(code)]
+fn put_choice(
+    alloc: Global,
+    test: &Node,
+    yes: &Node,
+    no: &Node,
+    names: &[Bytes],
+    out: &mut Vec<Token>,
+) -> Result<(), AllocError>
+    requires few_test { token_count (tree_of test.now) ≤ 1024 }
+    requires few_yes { token_count (tree_of yes.now) ≤ 1024 }
+    requires few_no { token_count (tree_of no.now) ≤ 1024 }
+    requires named { length names.now ≤ 64 }
+    ensures { OnOk result
+        (out.new.items ≡ out.old.items
+        ++ code_of names.now (IfElse 0 (tree_of test.now) (tree_of yes.now) (tree_of no.now))) }
+{
+    put_code(alloc, test, names, out)?;
+    let yes_tokens = tokens(yes) + four(yes) + 1;
+    put(out, Token::PopBranchFalse(yes_tokens as u16))?;
+    put_bytes(alloc, yes, names, out)?;
+    let no_tokens = tokens(no) + four(no);
+    put(out, Token::Branch(no_tokens as u16))?;
+    put_bytes(alloc, no, names, out)
 }

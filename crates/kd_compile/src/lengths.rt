@@ -100,30 +100,13 @@ pub(crate) fn lengths(node: &Node) -> Longest
             operand,
             separator,
             ..
-        } => {
-            let operand = lengths(operand);
-            let separator = lengths(separator);
-            over(hex_bound(operand.own, separator.own), operand, separator)
-        }
-        Node::IfElse { test, yes, no, .. } => {
-            let yes = lengths(yes);
-            let no = lengths(no);
-            Longest {
-                own: yes.own.max(no.own),
-                greatest: lengths(test).greatest.max(yes.greatest.max(no.greatest)),
-            }
-        }
+        } => hexadecimal(lengths(operand), lengths(separator)),
+        Node::IfElse { test, yes, no, .. } => choice(lengths(test), lengths(yes), lengths(no)),
         Node::Substring {
             operand,
             length,
             ..
-        } => {
-            let operand = lengths(operand);
-            Longest {
-                own: substring_bound(operand.own, *length),
-                greatest: operand.greatest,
-            }
-        }
+        } => part(lengths(operand), *length),
         Node::Lower { operand, .. } | Node::Upper { operand, .. } => lengths(operand),
         Node::IntToText { operand, .. } => Longest {
             own: 10,
@@ -140,5 +123,38 @@ fn over(own: usize, left: Longest, right: Longest) -> Longest
     Longest {
         own,
         greatest: own.max(left.greatest.max(right.greatest)),
+    }
+}
+
+// Returns the lengths of the hexadecimal text of a byte string.
+fn hexadecimal(bytes: Longest, separator: Longest) -> Longest
+    requires { (bytes.own ≤ 65536) × (separator.own ≤ 65536) }
+    ensures own { result.own ≡ min (bound_of_hex bytes.own separator.own) 65536 }
+    ensures greatest { result.greatest
+        ≡ max (min (bound_of_hex bytes.own separator.own) 65536)
+        (max bytes.greatest separator.greatest) }
+{
+    over(hex_bound(bytes.own, separator.own), bytes, separator)
+}
+
+// Returns the lengths of an `ifelse`.
+fn choice(test: Longest, yes: Longest, no: Longest) -> Longest
+    ensures own { result.own ≡ max yes.own no.own }
+    ensures greatest { result.greatest ≡ max test.greatest (max yes.greatest no.greatest) }
+{
+    Longest {
+        own: yes.own.max(no.own),
+        greatest: test.greatest.max(yes.greatest.max(no.greatest)),
+    }
+}
+
+// Returns the lengths of a substring.
+fn part(whole: Longest, length: Option<i32>) -> Longest
+    ensures own { result.own ≡ bound_of_substring whole.own length }
+    ensures greatest { result.greatest ≡ whole.greatest }
+{
+    Longest {
+        own: substring_bound(whole.own, length),
+        greatest: whole.greatest,
     }
 }
