@@ -56,11 +56,6 @@ module _ (bytes : List ℕ) (first : List Piece) where
   same_options second third options h a b c =
       c (h.in_use.field ++ h.in_use.file) (b h.in_use.field (a [] refl)) ∙ ap options_of (sym h.in_use.in_order) ∙ sym h.joins
 
--- the fault of the options field is the first
-pub field_fault : (bytes : List ℕ) (fault : AreaFault) → IsAreaFault true (options_field bytes) 240 fault → IsFirstAreaFault fault bytes
-field_fault bytes (Cut at) is = inl is.1
-field_fault bytes Memory is = tt
-
 -- the first area is joined to no options
 pub begun : (area field : List ℕ) (old first : List Piece) → area ≡ field → old ≡ [] → JoinsArea true area old first → JoinsArea true field [] first
 begun area field old first same none a = record {
