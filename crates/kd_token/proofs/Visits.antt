@@ -174,13 +174,6 @@ no_finish p s c t at is le other =
       wrong None above bool = above
       wrong (Some q) above bool = let P : List Kind → Type 0 = λ r. Covers r s in other (covered_bool s (subst P bool above.0))
 
--- the end is reached
-pub end_reached : (p : Code) (t : List Entry) → IsAt p (length p.tokens) t → entry_at t (length p.tokens) ≡ Unreached → ⊥
-end_reached p t at is =
-    let here : length p.tokens ≡ at.reached.0 = omega (arith, at.reached.1, at.reached.2) in
-    let P : ℕ → Type 0 = λ j. entry_at t j ≡ Unreached in
-    at.reached.3 (subst P here is)
-
 -- what indexing reads is the entry there
 pub entry_is : (t : List Entry) (i : ℕ) (e : Entry) → i < length t → e ≡ get_or t i e → entry_at t i ≡ e
 entry_is [] i e less is = absurd (omega (arith, less))

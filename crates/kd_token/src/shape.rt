@@ -3,6 +3,7 @@ ghost use Rattle.kd_token.specs.Shape.{AreShort, IsShortKind, field_kind, gives,
 ghost use Rattle.kd_token.specs.File.{IsShort};
 ghost use Rattle.kd_token.specs.Meet.{met, met_of_kinds};
 ghost use Rattle.kd_token.specs.declared.shape.Kind.TheVariants.{Bool, Int};
+ghost use Rattle.kd_token.specs.declared.token.Token.TheVariants.{And, Concat, Equal, HexString, IfElse};
 
 use crate::token::Token;
 use arrayvec::ArrayVec;
@@ -137,6 +138,65 @@ impl Shape {
         }
     }
 
+    // Takes two byte strings, as `Equal` does, and returns the kind that it gives.
+    #[tactic(auto, unfolding(crate::specs::Shape::gives))]
+    fn equal(&mut self) -> Option<Kind>
+        ensures { MatchOption result (gives 0 Equal self.old ≡ None)
+            (λ k. gives 0 Equal self.old ≡ Some (k ∷ self.new)) }
+    {
+        self.take_bytes()?;
+        self.take_bytes()?;
+        Some(Kind::Bool)
+    }
+
+    // Takes two truth values, as `And` and `Or` do, and returns the kind that they give.
+    #[tactic(auto, unfolding(crate::specs::Shape::gives))]
+    fn both(&mut self) -> Option<Kind>
+        ensures { MatchOption result (gives 0 And self.old ≡ None)
+            (λ k. gives 0 And self.old ≡ Some (k ∷ self.new)) }
+    {
+        self.take_bool()?;
+        self.take_bool()?;
+        Some(Kind::Bool)
+    }
+
+    // Takes two byte strings and a truth value, as `IfElse` does, and returns the kind that it
+    // gives.
+    #[tactic(auto, unfolding(crate::specs::Shape::gives))]
+    fn choose(&mut self) -> Option<Kind>
+        ensures { MatchOption result (gives 0 IfElse self.old ≡ None)
+            (λ k. gives 0 IfElse self.old ≡ Some (k ∷ self.new)) }
+    {
+        let second = self.take_bytes()?;
+        let first = self.take_bytes()?;
+        self.take_bool()?;
+        Some(Kind::Bytes(first.max(second)))
+    }
+
+    // Takes two byte strings, as `Concat` does, and returns the kind that it gives.
+    #[tactic(auto, unfolding(crate::specs::Shape::gives))]
+    fn concat(&mut self) -> Option<Kind>
+        requires short { AreShort 65535 self.old }
+        ensures { MatchOption result (gives 0 Concat self.old ≡ None)
+            (λ k. gives 0 Concat self.old ≡ Some (k ∷ self.new)) }
+    {
+        let second = self.take_bytes()?;
+        let first = self.take_bytes()?;
+        Some(Kind::Bytes(first + second))
+    }
+
+    // Takes two byte strings, as `HexString` does, and returns the kind that it gives.
+    #[tactic(auto, unfolding(crate::specs::Shape::gives))]
+    fn hex_string(&mut self) -> Option<Kind>
+        requires short { AreShort 65535 self.old }
+        ensures { MatchOption result (gives 0 HexString self.old ≡ None)
+            (λ k. gives 0 HexString self.old ≡ Some (k ∷ self.new)) }
+    {
+        let separator = self.take_bytes()?;
+        let bytes = self.take_bytes()?;
+        Some(Kind::Bytes(hex_bound(bytes, separator)))
+    }
+
     // Changes the shape as a token that goes on does, or returns `None` if the token cannot take
     // what it needs.
     #[tactic(auto, unfolding(crate::specs::Shape::gives))]
@@ -154,43 +214,18 @@ impl Shape {
             Token::PushRelay(_) => Kind::Bytes(255),
             Token::PushField(field) => kind_of(*field),
             Token::OptionExists(_) | Token::RelayExists(_) => Kind::Bool,
-            Token::Member(index) => {
-                if usize::from(*index) >= names {
-                    return None;
-                }
-                Kind::Bool
-            }
-            Token::Equal => {
-                self.take_bytes()?;
-                self.take_bytes()?;
-                Kind::Bool
-            }
+            Token::Member(index) if usize::from(*index) >= names => return None,
+            Token::Member(_) => Kind::Bool,
+            Token::Equal => self.equal()?,
             Token::Not => {
                 self.take_bool()?;
                 Kind::Bool
             }
-            Token::And | Token::Or => {
-                self.take_bool()?;
-                self.take_bool()?;
-                Kind::Bool
-            }
-            Token::IfElse => {
-                let second = self.take_bytes()?;
-                let first = self.take_bytes()?;
-                self.take_bool()?;
-                Kind::Bytes(first.max(second))
-            }
+            Token::And | Token::Or => self.both()?,
+            Token::IfElse => self.choose()?,
             Token::Substring(_, count) => Kind::Bytes(bound_of(self.take_bytes()?, *count)),
-            Token::Concat => {
-                let second = self.take_bytes()?;
-                let first = self.take_bytes()?;
-                Kind::Bytes(first + second)
-            }
-            Token::HexString => {
-                let separator = self.take_bytes()?;
-                let bytes = self.take_bytes()?;
-                Kind::Bytes(hex_bound(bytes, separator))
-            }
+            Token::Concat => self.concat()?,
+            Token::HexString => self.hex_string()?,
             Token::Lower | Token::Upper => Kind::Bytes(self.take_bytes()?),
             Token::IntToText => {
                 self.take_int()?;
