@@ -6,13 +6,13 @@ ghost use Rattle.kd_lease.specs.Rules.{Does, IsNewest, IsSetAt, Makes, asking, l
 ghost use Rattle.kd_lease.specs.declared.plan.PlanKind.TheVariants as kinds;
 
 use crate::ages::newest;
+use crate::changes::{make_declined_row, make_leased_row, make_released_row, offer_row};
 use crate::checks::ending_of;
 use crate::matter::Matter;
 use crate::plan::{Outline, PlanKind};
 use crate::question::Question;
 use crate::rule::Ending;
 use crate::search::Sought;
-use crate::changes::{make_declined_row, make_leased_row, make_released_row, offer_row};
 use crate::verdict::{Verdict, quiet};
 use kd_config::Config;
 use kd_event::Reason;

@@ -6,8 +6,8 @@ ghost use Rattle.kd_lease.specs.Seeking.{IsLeast, IsLeastOpen, is_common_open, i
 
 use crate::candidates::Choosing;
 use crate::fits::is_common;
-use crate::question::Question;
 use crate::free::{is_untaken, next_untaken};
+use crate::question::Question;
 use kd_config::{Range, Subnet};
 
 // Returns the first address in pool order that fits and has no row (`new`), or whose row has ended

@@ -1,8 +1,8 @@
 ghost use Rattle.kd_lease.specs.Ranks.{AreRanks};
 ghost use Rattle.kd_lease.specs.Rules.{asking};
 
-use crate::choice::{asked_for, kept_address};
 use crate::candidates::Choosing;
+use crate::choice::{asked_for, kept_address};
 use crate::pools::pool_choice;
 use crate::question::Question;
 use crate::search::{newest_own, newest_past};
