@@ -10,7 +10,7 @@ use Rattle.kd_compile.proofs.Meaning.{tree_makes, truth_is}
 use Rattle.kd_compile.proofs.Places.{names_known}
 use Rattle.kd_compile.proofs.Rows.{has_itself}
 use Rattle.kd_compile.proofs.Typed.{well_of}
-use Rattle.kd_compile.proofs.Ways.{Comes}
+use Rattle.kd_compile.proofs.Ways.{Comes, spot}
 use Rattle.kd_expr.specs.Grammar.{HasText}
 use Rattle.kd_expr.specs.Tree.{Tree}
 use Rattle.kd_expr.specs.Typing.{type_of}
@@ -25,11 +25,11 @@ use Rattle.kd_token.specs.File.{HasFile}
 
 -- the program comes from its first place to its end with the test's value
 comes_to_value : (t : Tree) (message : Seen) (held : List (List ℕ)) → type_of t ≡ Ok types.Bool
-    → Comes (program_for t) (world (program_for t) message held) 0 [] (length (code_of (names t) t)) (Truth (truth message held t) ∷ [])
+    → Comes (program_for t) (world (program_for t) message held) (spot 0 []) (spot (length (code_of (names t) t)) (Truth (truth message held t) ∷ []))
 comes_to_value t message held typed =
     let well = well_of t types.Bool typed in
     let made = tree_makes (program_for t) message held t well.1 (names_known t) [] 0 (has_itself (code_of (names t) t)) in
-    let C : ℕ → List Val → Type 0 = λ i s. Comes (program_for t) (world (program_for t) message held) 0 [] i s in
+    let C : ℕ → List Val → Type 0 = λ i s. Comes (program_for t) (world (program_for t) message held) (spot 0 []) (spot i s) in
     let A : ℕ → Type 0 = λ i. C i (value message held t ∷ []) in
     let B : Val → Type 0 = λ v. C (length (code_of (names t) t)) (v ∷ []) in
     let all : 0 + length (code_of (names t) t) ≡ length (code_of (names t) t) = omega arith in

@@ -2,39 +2,41 @@
 use Rattle.std.proofs.Common.{◌≡◌, ℕ, zero, suc, ◌+◌, max, List, [], ◌∷◌, ◌++◌, length, length-append, Some, refl, sym, subst, arith}
 use Rattle.std.specs.Prelude.{slice_get}
 use Rattle.kd_compile.proofs.Rows.{HasAt, has_front, has_back}
-use Rattle.kd_machine.specs.Run.{moves, Step, Segment}
+use Rattle.kd_machine.specs.Run.{moves, Spot, Reached, Step, Segment, reached_first}
 use Rattle.kd_machine.specs.Val.{Val, longest}
 use Rattle.kd_machine.specs.World.{World}
 use Rattle.kd_token.specs.File.{Code}
 use Rattle.kd_token.specs.declared.token.Token.{Token}
 
--- from a place with values a program comes to a place with values
-abbrev pub Comes : Code → World → ℕ → List Val → ℕ → List Val → Type 0
-Comes p w i s j t = (n : ℕ) × (d : ℕ) × (l : ℕ) × Segment p w i s n j t d l
+-- from a spot a program comes to a spot
+abbrev pub Comes : Code → World → Spot → Spot → Type 0
+Comes p w from to = (n : ℕ) × (d : ℕ) × (l : ℕ) × Segment p w from n (record { spot = to; peak_depth = d; peak_length = l })
 
-comes_step : (p : Code) (w : World) (i : ℕ) (s : List Val) (j : ℕ) (t : List Val) → Step p w i s j t → Comes p w i s j t
-comes_step p w i s j t step = (1, max (length s) (length t), max (longest s) (longest t), (i, s, length s, longest s, (refl, refl, refl, refl), step, refl, refl))
+-- a place with these values
+abbrev pub spot : ℕ → List Val → Spot
+spot i s = record { at = i; stack = s }
 
-comes_by : (n : ℕ) (p : Code) (w : World) (i j k : ℕ) (s t u : List Val) (d l : ℕ) → Comes p w i s j t → Segment p w j t n k u d l → Comes p w i s k u
-comes_by zero p w i j k s t u d l c g =
-    let P : ℕ → Type 0 = λ x. Comes p w i s x t in
-    let Q : List Val → Type 0 = λ x. Comes p w i s k x in
-    subst Q (sym g.1) (subst P (sym g.0) c)
-comes_by (suc n) p w i j k s t u d l c g =
-    let before = comes_by n p w i j g.0 s t g.1 g.2 g.3 c g.4 in
-    (suc before.0, max before.1 (length u), max before.2 (longest u), (g.0, g.1, before.1, before.2, before.3, g.5, refl, refl))
+comes_step : (p : Code) (w : World) (from to : Spot) → Step p w from to → Comes p w from to
+comes_step p w from to step = (1, max (length from.stack) (length to.stack), max (longest from.stack) (longest to.stack), (reached_first from, refl, step, refl))
+
+comes_by : (n : ℕ) (p : Code) (w : World) (from middle : Spot) (reached : Reached) → Comes p w from middle → Segment p w middle n reached → Comes p w from reached.spot
+comes_by zero p w from middle reached c g = let P : Reached → Type 0 = λ r. Comes p w from r.spot in subst P (sym g) c
+comes_by (suc n) p w from middle reached c g =
+    let before = comes_by n p w from middle g.0 c g.1 in
+    let first : Reached = record { spot = g.0.spot; peak_depth = before.1; peak_length = before.2 } in
+    (suc before.0, max before.1 (length reached.spot.stack), max before.2 (longest reached.spot.stack), (first, before.3, g.2, refl))
 
 -- one run after another
-pub comes_on : (p : Code) (w : World) (i j k : ℕ) (s t u : List Val) → Comes p w i s j t → Comes p w j t k u → Comes p w i s k u
-comes_on p w i j k s t u a b = comes_by b.0 p w i j k s t u b.1 b.2 a b.3
+pub comes_on : (p : Code) (w : World) (from middle to : Spot) → Comes p w from middle → Comes p w middle to → Comes p w from to
+comes_on p w from middle to a b = comes_by b.0 p w from middle (record { spot = to; peak_depth = b.1; peak_length = b.2 }) a b.3
 
-comes_to : (p : Code) (w : World) (i j k : ℕ) (s t : List Val) → j ≡ k → Comes p w i s j t → Comes p w i s k t
-comes_to p w i j k s t e c = let P : ℕ → Type 0 = λ x. Comes p w i s x t in subst P e c
+comes_to : (p : Code) (w : World) (from : Spot) (j k : ℕ) (t : List Val) → j ≡ k → Comes p w from (spot j t) → Comes p w from (spot k t)
+comes_to p w from j k t e c = let P : ℕ → Type 0 = λ x. Comes p w from (spot x t) in subst P e c
 
 -- wherever these tokens are, a program comes from the place before them with some values to the
 -- place after them with others
 abbrev pub Makes : Code → World → List Token → List Val → List Val → Type 0
-Makes p w xs s t = (i : ℕ) → HasAt (slice_get p.tokens) i xs → Comes p w i s (i + length xs) t
+Makes p w xs s t = (i : ℕ) → HasAt (slice_get p.tokens) i xs → Comes p w (spot i s) (spot (i + length xs) t)
 
 module _ (p : Code) (w : World) where
   -- tokens after others
@@ -43,23 +45,23 @@ module _ (p : Code) (w : World) where
       let first = a i (has_front (slice_get p.tokens) i xs ys h) in
       let second = b (i + length xs) (has_back (slice_get p.tokens) i xs ys h) in
       let size = length-append {A = Token} xs ys in
-      comes_to p w i (i + length xs + length ys) (i + length (xs ++ ys)) s u (omega (arith, size)) (comes_on p w i (i + length xs) (i + length xs + length ys) s t u first second)
+      comes_to p w (spot i s) (i + length xs + length ys) (i + length (xs ++ ys)) u (omega (arith, size)) (comes_on p w (spot i s) (spot (i + length xs) t) (spot (i + length xs + length ys) u) first second)
 
   -- a token that leads over some tokens to others
   pub makes_over : (x : Token) (xs ys : List Token) (s t u : List Val) → ((i : ℕ) → moves w x i s ≡ Some (i + 1 + length xs, t)) → Makes p w ys t u → Makes p w (x ∷ (xs ++ ys)) s u
   makes_over x xs ys s t u moved b i h =
-      let first = comes_step p w i s (i + 1 + length xs) t (x, h.0, moved i) in
+      let first = comes_step p w (spot i s) (spot (i + 1 + length xs) t) (x, h.0, moved i) in
       let second = b (i + 1 + length xs) (has_back (slice_get p.tokens) (i + 1) xs ys h.1) in
       let size = length-append {A = Token} xs ys in
-      comes_to p w i (i + 1 + length xs + length ys) (i + suc (length (xs ++ ys))) s u (omega (arith, size)) (comes_on p w i (i + 1 + length xs) (i + 1 + length xs + length ys) s t u first second)
+      comes_to p w (spot i s) (i + 1 + length xs + length ys) (i + suc (length (xs ++ ys))) u (omega (arith, size)) (comes_on p w (spot i s) (spot (i + 1 + length xs) t) (spot (i + 1 + length xs + length ys) u) first second)
 
   -- no token
   pub makes_none : (s : List Val) → Makes p w [] s s
-  makes_none s i h = comes_to p w i i (i + 0) s s (omega arith) (0, length s, longest s, (refl, refl, refl, refl))
+  makes_none s i h = comes_to p w (spot i s) i (i + 0) s (omega arith) (0, length s, longest s, refl)
 
   -- one token that goes on
   pub makes_one : (x : Token) (s t : List Val) → ((i : ℕ) → moves w x i s ≡ Some (i + 1, t)) → Makes p w (x ∷ []) s t
-  makes_one x s t moved i h = comes_step p w i s (i + 1) t (x, h.0, moved i)
+  makes_one x s t moved i h = comes_step p w (spot i s) (spot (i + 1) t) (x, h.0, moved i)
 
   -- a token that leads to the next one
   pub makes_next : (x : Token) (xs : List Token) (s t u : List Val) → ((i : ℕ) → moves w x i s ≡ Some (i + 1, t)) → Makes p w xs t u → Makes p w (x ∷ xs) s u
@@ -67,4 +69,4 @@ module _ (p : Code) (w : World) where
 
   -- a token that leads over all the tokens after it
   pub makes_past : (x : Token) (xs : List Token) (s t : List Val) → ((i : ℕ) → moves w x i s ≡ Some (i + 1 + length xs, t)) → Makes p w (x ∷ xs) s t
-  makes_past x xs s t moved i h = comes_to p w i (i + 1 + length xs) (i + suc (length xs)) s t (omega arith) (comes_step p w i s (i + 1 + length xs) t (x, h.0, moved i))
+  makes_past x xs s t moved i h = comes_to p w (spot i s) (i + 1 + length xs) (i + suc (length xs)) t (omega arith) (comes_step p w (spot i s) (spot (i + 1 + length xs) t) (x, h.0, moved i))

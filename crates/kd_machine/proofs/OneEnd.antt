@@ -1,64 +1,60 @@
 -- A run has one end.
-use Rattle.std.proofs.Common.{◌≡◌, ℕ, zero, suc, ◌<◌, ◌≤◌, max, Bool, List, [], ◌∷◌, length, Some, None, sym, ap, subst, ◌∙◌, arith, inl, inr}
+use Rattle.std.proofs.Common.{◌≡◌, ℕ, zero, suc, ◌<◌, ◌≤◌, Bool, List, [], ◌∷◌, length, Some, None, sym, ap, subst, ◌∙◌, arith, inl, inr}
 use Rattle.std.specs.Prelude.{◌⊎◌, slice_get}
 use Rattle.std.proofs.lemmas.Bool.{cases_lt}
 use Rattle.std.proofs.lemmas.Option.{slice_get_past}
 use Rattle.kd_token.specs.File.{Code}
 use Rattle.kd_token.specs.declared.token.Token.{Token}
-use Rattle.kd_machine.specs.Val.{Val, Truth, longest}
+use Rattle.kd_machine.specs.Val.{Val, Truth}
 use Rattle.kd_machine.specs.World.{World, world}
-use Rattle.kd_machine.specs.Run.{moves, Step, Segment}
+use Rattle.kd_machine.specs.Run.{moves, Spot, Reached, Step, Segment, first_spot, reached_end, reached_next}
 use Rattle.kd_machine.specs.Laws.{HasOneEnd}
 use Rattle.kd_machine.specs.declared.run.Outcome.{Outcome}
 
 some_same : {A : Type 0} (x y : A) → Some x ≡ Some y → x ≡ y
 some_same x y e = cc
 
--- a step leads to one place with one list of values
-step_same : (p : Code) (w : World) (i : ℕ) (s : List Val) (j k : ℕ) (t u : List Val) → Step p w i s j t → Step p w i s k u → (j ≡ k) × (t ≡ u)
-step_same p w i s j k t u a b =
+-- a step leads to one spot
+step_same : (p : Code) (w : World) (from to other : Spot) → Step p w from to → Step p w from other → to ≡ other
+step_same p w from to other a b =
     let token = some_same a.0 b.0 (sym a.1 ∙ b.1) in
-    let moved : Some (j, t) ≡ Some (k, u) = sym a.2 ∙ ap (λ x. moves w x i s) token ∙ b.2 in
-    let pair = some_same (j, t) (k, u) moved in
-    (ap (λ r. r.0) pair, ap (λ r. r.1) pair)
+    let moved : Some (to.at, to.stack) ≡ Some (other.at, other.stack) = sym a.2 ∙ ap (λ x. moves w x from.at from.stack) token ∙ b.2 in
+    let spot : ℕ × List Val → Spot = λ x. record { at = x.0; stack = x.1 } in
+    ap spot (some_same (to.at, to.stack) (other.at, other.stack) moved)
 
--- the results of the same number of steps are equal
-abbrev Same : ℕ → ℕ → List Val → List Val → ℕ → ℕ → ℕ → ℕ → Type 0
-Same j k t u d e l h = (j ≡ k) × (t ≡ u) × (d ≡ e) × (l ≡ h)
-
-segment_same : (n : ℕ) (p : Code) (w : World) (i : ℕ) (s : List Val) (j k : ℕ) (t u : List Val) (d e l h : ℕ) → Segment p w i s n j t d l → Segment p w i s n k u e h → Same j k t u d e l h
-segment_same zero p w i s j k t u d e l h a b = (a.0 ∙ sym b.0, a.1 ∙ sym b.1, a.2 ∙ sym b.2, a.3 ∙ sym b.3)
-segment_same (suc n) p w i s j k t u d e l h a b =
-    let before = segment_same n p w i s a.0 b.0 a.1 b.1 a.2 b.2 a.3 b.3 a.4 b.4 in
-    let S : ℕ → List Val → Type 0 = λ m v. Step p w m v k u in
-    let here : Step p w a.0 b.1 k u = subst (λ m. Step p w m b.1 k u) (sym before.0) b.5 in
-    let there : Step p w a.0 a.1 k u = subst (λ v. Step p w a.0 v k u) (sym before.1) here in
-    let after = step_same p w a.0 a.1 j k t u a.5 there in
-    (after.0, after.1, a.6 ∙ ap (λ m. max m (length t)) before.2 ∙ ap (λ v. max b.2 (length v)) after.1 ∙ sym b.6, a.7 ∙ ap (λ m. max m (longest t)) before.3 ∙ ap (λ v. max b.3 (longest v)) after.1 ∙ sym b.7)
+-- the same number of steps reach the same
+segment_same : (n : ℕ) (p : Code) (w : World) (from : Spot) (reached other : Reached) → Segment p w from n reached → Segment p w from n other → reached ≡ other
+segment_same zero p w from reached other a b = a ∙ sym b
+segment_same (suc n) p w from reached other a b =
+    let before : a.0 ≡ b.0 = segment_same n p w from a.0 b.0 a.1 b.1 in
+    let S : Reached → Type 0 = λ r. Step p w r.spot other.spot in
+    let there : Step p w a.0.spot other.spot = subst S (sym before) b.2 in
+    let spot : reached.spot ≡ other.spot = step_same p w a.0.spot reached.spot other.spot a.2 there in
+    a.3 ∙ ap (λ r. reached_next r reached.spot) before ∙ ap (reached_next b.0) spot ∙ sym b.3
 
 -- a place from which more steps follow has a token
-abbrev GoesOn : Code → World → ℕ → List Val → ℕ → Type 0
-GoesOn p w i s n = (j : ℕ) × (t : List Val) × (d : ℕ) × (l : ℕ) × Segment p w i s n j t d l × ((token : Token) × (slice_get p.tokens j ≡ Some token))
+abbrev GoesOn : Code → World → Spot → ℕ → Type 0
+GoesOn p w from n = (reached : Reached) × Segment p w from n reached × ((token : Token) × (slice_get p.tokens reached.spot.at ≡ Some token))
 
-goes_on : (m n : ℕ) (p : Code) (w : World) (i : ℕ) (s : List Val) (j : ℕ) (t : List Val) (d l : ℕ) → n < m → Segment p w i s m j t d l → GoesOn p w i s n
-goes_on zero n p w i s j t d l less a = absurd (omega (arith, less))
-goes_on (suc m) n p w i s j t d l less a = by (cases_lt n m) (λ fewer. goes_on m n p w i s a.0 a.1 a.2 a.3 fewer a.4) where
-  by : (n < m) ⊎ (m ≤ n) → (n < m → GoesOn p w i s n) → GoesOn p w i s n
+goes_on : (m n : ℕ) (p : Code) (w : World) (from : Spot) (reached : Reached) → n < m → Segment p w from m reached → GoesOn p w from n
+goes_on zero n p w from reached less a = absurd (omega (arith, less))
+goes_on (suc m) n p w from reached less a = by (cases_lt n m) (λ fewer. goes_on m n p w from a.0 fewer a.1) where
+  by : (n < m) ⊎ (m ≤ n) → (n < m → GoesOn p w from n) → GoesOn p w from n
   by (inl fewer) earlier = earlier fewer
   by (inr last) earlier =
       let same : m ≡ n = omega (arith, less, last) in
-      let G : ℕ → Type 0 = GoesOn p w i s in
-      subst G same (a.0, a.1, a.2, a.3, a.4, (a.5.0, a.5.1))
+      let G : ℕ → Type 0 = GoesOn p w from in
+      subst G same (a.0, a.1, (a.2.0, a.2.1))
 
 -- a run does not go on after the end
-stops : (p : Code) (w : World) (v : Bool) (n m d l j e h : ℕ) (t : List Val) → Segment p w 0 [] n (length p.tokens) (Truth v ∷ []) d l → Segment p w 0 [] m j t e h → n < m → ⊥
-stops p w v n m d l j e h t a b less =
-    let more = goes_on m n p w 0 [] j t e h less b in
-    let same = segment_same n p w 0 [] (length p.tokens) more.0 (Truth v ∷ []) more.1 d more.2 l more.3 a more.4 in
+stops : (p : Code) (w : World) (o : Outcome) (n m : ℕ) (other : Reached) → Segment p w first_spot n (reached_end p o) → Segment p w first_spot m other → n < m → ⊥
+stops p w o n m other a b less =
+    let more = goes_on m n p w first_spot other less b in
+    let same : reached_end p o ≡ more.0 = segment_same n p w first_spot (reached_end p o) more.0 a more.1 in
     let past : slice_get p.tokens (length p.tokens) ≡ None = slice_get_past p.tokens (length p.tokens) (omega arith) in
-    let there : slice_get p.tokens (length p.tokens) ≡ Some more.5.0 = ap (slice_get p.tokens) same.0 ∙ more.5.1 in
-    let wrong : None ≡ Some more.5.0 = sym past ∙ there in
-    none more.5.0 wrong where
+    let there : slice_get p.tokens (length p.tokens) ≡ Some more.2.0 = ap (λ (r : Reached). slice_get p.tokens r.spot.at) same ∙ more.2.1 in
+    let wrong : None ≡ Some more.2.0 = sym past ∙ there in
+    none more.2.0 wrong where
       none : (token : Token) → None ≡ Some token → ⊥
       none token e = cc
 
@@ -82,10 +78,10 @@ one_end p message held o r a b = by (cases_lt o.steps r.steps) (cases_lt r.steps
   w = world p message held
 
   by : (o.steps < r.steps) ⊎ (r.steps ≤ o.steps) → (r.steps < o.steps) ⊎ (o.steps ≤ r.steps) → o ≡ r
-  by (inl less) other = absurd (stops p w o.value o.steps r.steps o.peak_depth o.peak_length (length p.tokens) r.peak_depth r.peak_length (Truth r.value ∷ []) a b less)
-  by (inr le) (inl less) = absurd (stops p w r.value r.steps o.steps r.peak_depth r.peak_length (length p.tokens) o.peak_depth o.peak_length (Truth o.value ∷ []) b a less)
+  by (inl less) other = absurd (stops p w o o.steps r.steps (reached_end p r) a b less)
+  by (inr le) (inl less) = absurd (stops p w r r.steps o.steps (reached_end p o) b a less)
   by (inr le) (inr ge) =
       let steps : o.steps ≡ r.steps = omega (arith, le, ge) in
-      let S : ℕ → Type 0 = λ k. Segment p w 0 [] k (length p.tokens) (Truth o.value ∷ []) o.peak_depth o.peak_length in
-      let same = segment_same r.steps p w 0 [] (length p.tokens) (length p.tokens) (Truth o.value ∷ []) (Truth r.value ∷ []) o.peak_depth r.peak_depth o.peak_length r.peak_length (subst S steps a) b in
-      outcome_same o r (truth_same o.value r.value same.1) steps same.2 same.3
+      let S : ℕ → Type 0 = λ k. Segment p w first_spot k (reached_end p o) in
+      let same : reached_end p o ≡ reached_end p r = segment_same r.steps p w first_spot (reached_end p o) (reached_end p r) (subst S steps a) b in
+      outcome_same o r (truth_same o.value r.value (ap (λ (x : Reached). x.spot.stack) same)) steps (ap (λ (x : Reached). x.peak_depth) same) (ap (λ (x : Reached). x.peak_length) same)

@@ -6,7 +6,7 @@ use Rattle.kd_token.specs.File.{Code}
 use Rattle.kd_token.specs.declared.shape.Kind.{Kind}
 use Rattle.kd_token.specs.declared.shape.Kind.TheVariants as kinds
 use Rattle.kd_options.specs.Message.{Seen}
-use Rattle.kd_machine.specs.Run.{Segment}
+use Rattle.kd_machine.specs.Run.{Reached, Segment, first_spot}
 use Rattle.kd_machine.specs.World.{world}
 use Rattle.kd_machine.specs.Val.{Val, Truth, Number, Text, longest}
 
@@ -41,12 +41,12 @@ pub record StandsAt (p : Code) (i : ℕ) (n : ℕ) (s : List Val) : Type 0 where
   pub deep : length s ≤ p.depth
   pub long : longest s ≤ p.bound
 
--- a run at place i after n steps with values s, its peaks so far d and l
-pub record IsRunning (p : Code) (message : Seen) (held : List (List ℕ)) (i : ℕ) (n : ℕ)
-    (s : List Val) (d : ℕ) (l : ℕ) : Type 0 where
-  pub chain : Segment p (world p message held) 0 [] n i s d l
-  pub stands : StandsAt p i n s
-  pub depth : d ≤ p.depth
-  pub bound : l ≤ p.bound
-  pub covers : longest s ≤ l
-  pub forward : n ≤ i
+-- a run of an accepted program, after n steps, and how far it has come
+pub record IsRunning (p : Code) (message : Seen) (held : List (List ℕ)) (n : ℕ)
+    (reached : Reached) : Type 0 where
+  pub chain : Segment p (world p message held) first_spot n reached
+  pub stands : StandsAt p reached.spot.at n reached.spot.stack
+  pub depth : reached.peak_depth ≤ p.depth
+  pub bound : reached.peak_length ≤ p.bound
+  pub covers : longest reached.spot.stack ≤ reached.peak_length
+  pub forward : n ≤ reached.spot.at

@@ -68,25 +68,64 @@ moves_by (routes.Keep stays skip) w token i s =
 abbrev pub moves : World → Token → ℕ → List Val → Option (ℕ × List Val)
 moves w token i s = moves_by (way_of token) w token i s
 
--- a step: from place i with stack s to place j with stack t
-abbrev pub Step : Code → World → ℕ → List Val → ℕ → List Val → Type 0
-Step p w i s j t =
-    (token : Token) × (slice_get p.tokens i ≡ Some token) × (moves w token i s ≡ Some (j, t))
+-- a place of a program, and the stack there
+pub record Spot : Type 0 where
+  pub at : ℕ
+  pub stack : List Val
 
--- n steps from place i with stack s to place j with stack t; d is the greatest depth on the way and
--- l the length of the longest value
-abbrev pub Segment : Code → World → ℕ → List Val → ℕ → ℕ → List Val → ℕ → ℕ → Type 0
-Segment p w i s zero j t d l = (j ≡ i) × (t ≡ s) × (d ≡ length s) × (l ≡ longest s)
-Segment p w i s (suc n) k u d l =
-    (j : ℕ) × (t : List Val) × (e : ℕ) × (h : ℕ) × Segment p w i s n j t e h × Step p w j t k u
-    × (d ≡ max e (length u)) × (l ≡ max h (longest u))
+-- how far a run has come: where it is, the greatest depth of its stack so far, and the length of
+-- its longest value so far
+pub record Reached : Type 0 where
+  pub spot : Spot
+  pub peak_depth : ℕ
+  pub peak_length : ℕ
+
+-- a step from one spot to another
+abbrev pub Step : Code → World → Spot → Spot → Type 0
+Step p w from to =
+    (token : Token) × (slice_get p.tokens from.at ≡ Some token)
+    × (moves w token from.at from.stack ≡ Some (to.at, to.stack))
+
+-- how far a run has come that begins at a spot
+abbrev pub reached_first : Spot → Reached
+reached_first from = record {
+  spot = from;
+  peak_depth = length from.stack;
+  peak_length = longest from.stack;
+}
+
+-- how far a run has come after one more step, to a spot
+abbrev pub reached_next : Reached → Spot → Reached
+reached_next before to = record {
+  spot = to;
+  peak_depth = max before.peak_depth (length to.stack);
+  peak_length = max before.peak_length (longest to.stack);
+}
+
+-- a run of n steps that begins at a spot, and how far it has come
+abbrev pub Segment : Code → World → Spot → ℕ → Reached → Type 0
+Segment p w from zero reached = reached ≡ reached_first from
+Segment p w from (suc n) reached =
+    (before : Reached) × Segment p w from n before × Step p w before.spot reached.spot
+    × (reached ≡ reached_next before reached.spot)
+
+-- the first place of a program, with an empty stack
+abbrev pub first_spot : Spot
+first_spot = record { at = 0; stack = [] }
+
+-- the end of a program, with the one truth value and the peaks of an outcome
+abbrev pub reached_end : Code → Outcome → Reached
+reached_end p o = record {
+  spot = record { at = length p.tokens; stack = Truth o.value ∷ [] };
+  peak_depth = o.peak_depth;
+  peak_length = o.peak_length;
+}
 
 -- a run of a program over a message with these names held, and its outcome: the steps go from the
 -- program's first place with an empty stack to its end with the one truth value
 abbrev pub Run : Code → Seen → List (List ℕ) → Outcome → Type 0
 Run p message held o =
-    Segment p (world p message held) 0 [] o.steps (length p.tokens) (Truth o.value ∷ [])
-    o.peak_depth o.peak_length
+    Segment p (world p message held) first_spot o.steps (reached_end p o)
 
 -- a token that allocates no memory
 abbrev pub IsFree : Token → Type 0

@@ -1,10 +1,12 @@
-ghost use Rattle.std.specs.Prelude.{◌≡◌, ◌<◌, ◌≤◌, ◌∷◌, IsOk, MatchOption, OnOk, Some, length, nat_eq};
+ghost use Rattle.std.specs.Prelude.{◌≡◌, ◌<◌, ◌≤◌, ◌∷◌, ◌&&◌, ◌||◌, IsOk, IsSomeAnd, MatchOption, OnOk, Some, length, nat_eq};
 ghost use Rattle.std.specs.Map.{lookup};
+ghost use Rattle.byteorder.specs.Endian.{big_bytes};
 ghost use Rattle.kd_machine.specs.Run.{IsFree, rule};
-ghost use Rattle.kd_machine.specs.Val.{Text};
-ghost use Rattle.kd_machine.specs.Values.{stands_for};
+ghost use Rattle.kd_machine.specs.Val.{Text, Truth};
+ghost use Rattle.kd_machine.specs.Values.{stands_for, take_number, take_truth};
 ghost use Rattle.kd_machine.specs.World.{world};
 ghost use Rattle.kd_machine.specs.Parts.{or_empty, value_of_field};
+ghost use Rattle.kd_options.specs.Joined.{value_of};
 ghost use Rattle.kd_options.specs.RelayWalk.{relay_list};
 
 use crate::held::Held;
@@ -47,6 +49,18 @@ fn push_field<'a, const ROOM: usize>(
     stack.push(field_value(message, field));
 }
 
+// Pushes the value of an option, or the empty string if it is absent.
+fn push_option<'a, const ROOM: usize>(
+    stack: &mut Stack<'a, ROOM>,
+    message: &'a Message<'_>,
+    code: u8,
+)
+    requires { length stack.old < ROOM }
+    ensures { stack.new ≡ Text (or_empty (value_of code message.now.options)) ∷ stack.old }
+{
+    stack.push(Value::Slice(message.option(code).unwrap_or(&[])));
+}
+
 // Pushes the value of a sub-option, or the empty string if it is absent.
 fn push_relay<'a, const ROOM: usize>(
     stack: &mut Stack<'a, ROOM>,
@@ -58,6 +72,40 @@ fn push_relay<'a, const ROOM: usize>(
         ∷ stack.old }
 {
     stack.push(Value::Slice(message.relay(code).unwrap_or(&[])));
+}
+
+// Replaces the two truth values on top with whether both are true.
+fn both<const ROOM: usize>(stack: &mut Stack<'_, ROOM>)
+    requires { IsSomeAnd (take_truth stack.old)
+        (λ b. IsSomeAnd (take_truth b.1) (λ a. length a.1 < ROOM)) }
+    ensures { MatchOption (take_truth stack.old) ⊥
+        (λ b. MatchOption (take_truth b.1) ⊥ (λ a. stack.new ≡ Truth (a.0 && b.0) ∷ a.1)) }
+{
+    let second = stack.pop_truth();
+    let first = stack.pop_truth();
+    stack.push(Value::Bool(first && second));
+}
+
+// Replaces the two truth values on top with whether one of them is true.
+fn either<const ROOM: usize>(stack: &mut Stack<'_, ROOM>)
+    requires { IsSomeAnd (take_truth stack.old)
+        (λ b. IsSomeAnd (take_truth b.1) (λ a. length a.1 < ROOM)) }
+    ensures { MatchOption (take_truth stack.old) ⊥
+        (λ b. MatchOption (take_truth b.1) ⊥ (λ a. stack.new ≡ Truth (a.0 || b.0) ∷ a.1)) }
+{
+    let second = stack.pop_truth();
+    let first = stack.pop_truth();
+    stack.push(Value::Bool(first || second));
+}
+
+// Replaces the number on top with its four bytes.
+fn push_number_bytes<const ROOM: usize>(stack: &mut Stack<'_, ROOM>)
+    requires { IsSomeAnd (take_number stack.old) (λ a. length a.1 < ROOM) }
+    ensures { MatchOption (take_number stack.old) ⊥
+        (λ a. stack.new ≡ Text (big_bytes 4 a.0) ∷ a.1) }
+{
+    let number = stack.pop_number();
+    stack.push(Value::Small(Small::new(number.to_be_bytes())));
 }
 
 // Runs one token that is not a branch.
@@ -80,9 +128,7 @@ pub(crate) fn step<'a, const ROOM: usize>(
     match token {
         Token::PushBytes(bytes) => stack.push(Value::Slice(bytes.as_slice())),
         Token::PushInt(number) => stack.push(Value::Int(*number)),
-        Token::PushOption(code) => {
-            stack.push(Value::Slice(message.option(*code).unwrap_or(&[])));
-        }
+        Token::PushOption(code) => push_option(stack, message, *code),
         Token::PushRelay(code) => push_relay(stack, message, *code),
         Token::PushField(field) => push_field(stack, message, *field),
         Token::OptionExists(code) => stack.push(Value::Bool(message.option(*code).is_some())),
@@ -96,16 +142,8 @@ pub(crate) fn step<'a, const ROOM: usize>(
             let truth = stack.pop_truth();
             stack.push(Value::Bool(!truth));
         }
-        Token::And => {
-            let second = stack.pop_truth();
-            let first = stack.pop_truth();
-            stack.push(Value::Bool(first && second));
-        }
-        Token::Or => {
-            let second = stack.pop_truth();
-            let first = stack.pop_truth();
-            stack.push(Value::Bool(first || second));
-        }
+        Token::And => both(stack),
+        Token::Or => either(stack),
         Token::IfElse => choose(stack),
         Token::Substring(start, count) => narrow(stack, *start, *count),
         Token::Concat => concat(alloc, stack)?,
@@ -113,10 +151,7 @@ pub(crate) fn step<'a, const ROOM: usize>(
         Token::Lower => lower(alloc, stack)?,
         Token::Upper => upper(alloc, stack)?,
         Token::IntToText => digits(alloc, stack)?,
-        Token::IntBytes => {
-            let number = stack.pop_number();
-            stack.push(Value::Small(Small::new(number.to_be_bytes())));
-        }
+        Token::IntBytes => push_number_bytes(stack),
         Token::Branch(_)
         | Token::PopBranchFalse(_)
         | Token::BranchFalseElsePop(_)
