@@ -170,8 +170,3 @@ at_entered m inner name r named has gives =
         let is_rows : p.1 ≡ rows_of (found_of inner) = let same : Some (rows_of (found_of inner)) ≡ Some p.1 = h in cc in
         let text : (n : Text) → first_of n p.1 ≡ first_value (found_of inner) n = λ n. ap (first_of n) is_rows ∙ sym (first_value-rows (found_of inner) n) in
         ap₂ asked_by is_name (fun_ext text)
-
--- what the subcommand of its name does
-pub at_name : (name wanted : Text) (text : Text → Option Text) (r : Result Order LineFault) → name ≡ wanted
-    → GivesIfThere (asked_by wanted text) r → GivesIfThere (asked_by name text) r
-at_name name wanted text r is gives = subst (λ n. GivesIfThere (asked_by n text) r) (sym is) gives
