@@ -1,5 +1,5 @@
 -- Words letter by letter, and texts sign by sign.
-use Rattle.std.proofs.Common.{◌≡◌, ◌∙◌, ℕ, suc, ◌+◌, ◌-◌, ◌<◌, take, Bool, false, cond, find, ◌&&◌, List, [], ◌∷◌, ◌++◌, length, drop, get_or, Option, Some, None, option_map, refl, sym, ap, ap₂, append_assoc}
+use Rattle.std.proofs.Common.{◌≡◌, ◌∙◌, ℕ, suc, ◌+◌, ◌-◌, ◌<◌, take, Bool, false, cond, find, List, [], ◌∷◌, ◌++◌, length, drop, get_or, Option, Some, None, option_map, refl, sym, ap, append_assoc}
 use Rattle.std.specs.Char.{eq_ignore_ascii_case}
 use Rattle.std.proofs.lemmas.Bool.{and_right}
 use Rattle.std.proofs.lemmas.List.{drop_more, take_rest}
@@ -12,10 +12,6 @@ other_length [] (b ∷ text) other = refl
 other_length (a ∷ word) [] other = refl
 other_length (a ∷ word) (b ∷ text) other =
     and_right (eq_ignore_ascii_case a b) (is_word word text) (other_length word text (λ e. other (ap suc e)))
-
--- a step over a letter of both
-pub next_letter : (word text : List ℕ) (i : ℕ) → i < length word → i < length text → is_word (drop i word) (drop i text) ≡ (eq_ignore_ascii_case (get_or word i 0) (get_or text i 0) && is_word (drop (i + 1) word) (drop (i + 1) text))
-next_letter word text i less low = ap₂ is_word (drop_more word i 0 less) (drop_more text i 0 low)
 
 -- a sign goes behind those that there are
 pub sign_read : (signs : List ℕ) (sign : ℕ) (o : Option (List ℕ)) → option_map (λ v. signs ++ v) (sign_before sign o) ≡ option_map (λ v. (signs ++ sign ∷ []) ++ v) o

@@ -6,13 +6,13 @@ use Rattle.std.specs.List.{flat_map, list_all}
 use Rattle.std.proofs.lemmas.Bool.{and_parts, not-true, or_parts}
 use Rattle.hex.specs.Hex.{IsBytes}
 use Rattle.kd_names.specs.Values.{code_behind, codes_text, shorts_behind, shorts_text, sign_text}
-use Rattle.kd_values.specs.Parts.{trimmed, values_between_commas}
+use Rattle.kd_values.specs.Parts.{values_between_commas}
 use Rattle.kd_values.specs.Numbers.{four_bytes_spelled, number_given, one_byte_spelled, signed_spelled, two_bytes_spelled}
 use Rattle.kd_values.specs.Signs.{sign_before, signs_read}
 use Rattle.kd_values.specs.Laws.{is_plain_sign}
 use Rattle.kd_values.proofs.Decimals.{AreFigures, below_reads, decimal_reads, figures_inner}
 use Rattle.kd_values.proofs.Lists.{GoesOn, goes_on_more, goes_on_none}
-use Rattle.kd_values.proofs.Trims.{AreInner, inner_trimmed}
+use Rattle.kd_values.proofs.Trims.{AreInner}
 
 -- ---- bytes of numbers
 
@@ -24,9 +24,6 @@ four_bytes a b c d p q r s =
     ap₂ (λ x y. x ∷ y) (omega (arith, p, q, r, s)) (ap₂ (λ x y. x ∷ y) (omega (arith, p, q, r, s)) (ap₂ (λ x y. x ∷ y ∷ []) (omega (arith, p, q, r, s)) (omega (arith, p, q, r, s))))
 
 -- ---- one number
-
-decimal_trimmed : (n : ℕ) → n < 2 ^ 64 → trimmed (decimal n) ≡ decimal n
-decimal_trimmed n small = inner_trimmed (decimal n) (figures_inner (decimal n) (decimal_reads n small).0)
 
 pub one_byte_reads : (n : ℕ) → n < 256 → one_byte_spelled (decimal n) ≡ Some (n ∷ [])
 one_byte_reads n small = ap (option_map (λ m. m ∷ [])) (below_reads 256 n small (omega (arith, small)))

@@ -6,24 +6,6 @@ use Rattle.kd_values.specs.Fields.{field_spelled, last_field, parts_spelled, typ
 use Rattle.kd_values.specs.Parts.{trimmed}
 use Rattle.kd_values.proofs.Joined.{behind_both}
 
--- ---- types
-
--- the type of the next part is that of the next field
-pub type_follows : (field second : FieldType) (more : List FieldType) (repeats : Bool) (n : ℕ) → types_of_parts field (second ∷ more) repeats (n + 2) ≡ field ∷ types_of_parts second more repeats (n + 1)
-type_follows field second more true n =
-    ap (λ k. field ∷ ((second ∷ more) ++ replicate k (last_field second more))) (omega arith)
-type_follows field second more false n = refl
-
--- or of the last field once more
-pub type_repeats : (field : FieldType) (n : ℕ) → types_of_parts field [] true (n + 2) ≡ field ∷ types_of_parts field [] true (n + 1)
-type_repeats field n =
-    let more : (n + 2) - 1 ≡ suc n = omega arith in
-    let less : n ≡ (n + 1) - 1 = omega arith in
-    ap (λ k. field ∷ replicate k field) more
-    ∙ ap (λ k. field ∷ (field ∷ replicate k field)) less
-
--- ---- values
-
 abbrev with_others : List FieldType → List (List ℕ) → Option (List ℕ) → Option (List ℕ)
 with_others fields parts value =
     option_and_then (λ first. option_and_then (λ others. Some (first ++ others)) (values_by_type fields parts)) value
