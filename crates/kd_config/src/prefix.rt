@@ -1,4 +1,4 @@
-ghost use Rattle.std.specs.Prelude.{◌≡◌};
+ghost use Rattle.std.specs.Prelude.{◌+◌, ◌-◌, ◌≡◌};
 ghost use Rattle.kd_config.specs.Address.{has_address, prefix_size};
 
 /// The prefix of a subnet: the addresses that have the same first `length` bits.
