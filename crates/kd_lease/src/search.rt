@@ -1,4 +1,4 @@
-ghost use Rattle.std.specs.Prelude.{◌≡◌, ℕ, ◌+◌, ◌-◌, IsTrue, None, false, true};
+ghost use Rattle.std.specs.Prelude.{◌≡◌, ℕ, IsTrue, None, false, true};
 ghost use Rattle.kd_lease.specs.Choice.{changed_in, set_later};
 ghost use Rattle.kd_lease.specs.Choice.Rank.{own, past};
 ghost use Rattle.kd_lease.specs.Rules.{asking, bound_state, client_has, held_at, leased_to, offered_to, offered_state, is_record};
