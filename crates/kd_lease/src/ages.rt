@@ -7,7 +7,7 @@ ghost use Rattle.kd_rows.specs.Table.{row_at};
 ghost use Rattle.kd_rows.specs.declared.row.Row.{Row as RowOf};
 
 use crate::candidates::Choosing;
-use crate::fits::is_holding;
+use crate::fit::is_holding;
 use crate::question::Question;
 use crate::search::{Sought, is_newer, is_offered, is_sought};
 use kd_rows::{Row, Rows, State};

@@ -5,7 +5,7 @@ ghost use Rattle.kd_config.specs.Address.{has_address};
 ghost use Rattle.kd_lease.specs.Choice.{fitting_for, free_for};
 ghost use Rattle.kd_lease.specs.Rules.{asking, client_has, ending, fails, held_at, holds_at, known_in, passes, passes_in, serving_subnet};
 
-use crate::fits::{fits, is_free};
+use crate::fit::{fits, is_free};
 use crate::matter::Matter;
 use crate::question::Question;
 use crate::rule::{Check, Ending, Line};

@@ -4,8 +4,8 @@ ghost use Rattle.kd_lease.specs.Rules.{IsChosen, asking};
 ghost use Rattle.kd_lease.specs.Ranks.{IsRanked};
 
 use crate::candidates::Choosing;
-use crate::fits::{fits_with, is_free, requested_of};
-use crate::pools::pool_choice;
+use crate::fit::{fits_with, is_free, requested_of};
+use crate::pool_search::pool_choice;
 use crate::question::Question;
 use crate::search::newest_known;
 use kd_config::Subnet;

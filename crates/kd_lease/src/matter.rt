@@ -4,7 +4,7 @@ ghost use Rattle.kd_options.specs.Joined.{value_of};
 ghost use Rattle.kd_options.specs.Kind.{type_number};
 
 use crate::choice::choose;
-use crate::fits::requested_of;
+use crate::fit::requested_of;
 use crate::question::Question;
 use crate::rule::Rule;
 use crate::server::{renewed_of, server_of};

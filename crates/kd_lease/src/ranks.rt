@@ -3,7 +3,7 @@ ghost use Rattle.kd_lease.specs.Rules.{asking};
 
 use crate::candidates::Choosing;
 use crate::choice::{asked_for, kept_address};
-use crate::pools::pool_choice;
+use crate::pool_search::pool_choice;
 use crate::question::Question;
 use crate::search::{newest_own, newest_past};
 use kd_config::Subnet;

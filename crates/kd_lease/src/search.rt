@@ -8,7 +8,7 @@ ghost use Rattle.kd_rows.specs.Table.{row_at};
 
 use crate::ages::newest;
 use crate::candidates::Choosing;
-use crate::fits::{fits_with, is_held_by, is_of, is_past};
+use crate::fit::{fits_with, is_held_by, is_of, is_past};
 use crate::question::Question;
 use kd_config::Subnet;
 use kd_rows::{Rows, State};

@@ -1,7 +1,7 @@
 ghost use Rattle.std.specs.Prelude.{◌≡◌};
 ghost use Rattle.kd_lease.specs.Rules.{named_server, other_server, renewed_address};
 
-use crate::fits::{address_in, requested_of};
+use crate::fit::{address_in, requested_of};
 use kd_options::Message;
 use kd_options::codes::OPTION_SERVER_IDENTIFIER;
 

@@ -2,7 +2,7 @@ use Rattle.std.proofs.Common.{ℕ, Option, subst, sym}
 use Rattle.kd_lease.specs.Rules.{asking}
 use Rattle.kd_lease.specs.Seeking.{IsLeast, IsLeastOpen, is_kept_open}
 use Rattle.kd_lease.proofs.Least.{lesser_open}
-use Rattle.kd_lease.proofs.pools.least_open.Goals as goal
+use Rattle.kd_lease.proofs.pool_search.least_open.Goals as goal
 
 pub returns : goal.returns
 returns c =

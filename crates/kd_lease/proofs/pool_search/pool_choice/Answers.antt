@@ -2,7 +2,7 @@ use Rattle.std.proofs.Common.{◌≡◌, ◌<◌, List, length, get_or, ap, arit
 use Rattle.kd_config.specs.declared.pool.Pool.{Pool}
 use Rattle.kd_lease.specs.Rules.{asking}
 use Rattle.kd_lease.proofs.Pools.{first_open, next_pool, no_open}
-use Rattle.kd_lease.proofs.pools.pool_choice.Goals as goal
+use Rattle.kd_lease.proofs.pool_search.pool_choice.Goals as goal
 
 pub returns-in-Some : goal.returns-in-Some
 returns-in-Some c =

@@ -2,7 +2,7 @@ use Rattle.std.proofs.Common.{sym, ◌∙◌, arith}
 use Rattle.kd_lease.specs.Rules.{asking}
 use Rattle.kd_lease.specs.Seeking.{is_common_open}
 use Rattle.kd_lease.proofs.Least.{found_next, none_at_last, none_from, none_next}
-use Rattle.kd_lease.proofs.pools.least_common.Goals as goal
+use Rattle.kd_lease.proofs.pool_search.least_common.Goals as goal
 
 pub returns-in-None : goal.returns-in-None
 returns-in-None c = none_from (asking c.args.question.now) c.args.subnet.now c.args.new c.args.range.first c.args.range.last c.loop-from.from c.loop-from.invariant.none c.in-None.ensures

@@ -5,7 +5,7 @@ ghost use Rattle.kd_lease.specs.Ranks.{IsRanked};
 ghost use Rattle.kd_lease.specs.Seeking.{IsLeast, IsLeastOpen, is_common_open, is_kept_open, pool_rank};
 
 use crate::candidates::Choosing;
-use crate::fits::is_common;
+use crate::fit::is_common;
 use crate::free::{is_untaken, next_untaken};
 use crate::question::Question;
 use kd_config::{Range, Subnet};

@@ -2,7 +2,7 @@ use Rattle.std.proofs.Common.{◌+◌, ◌-◌, ◌≤◌}
 use Rattle.kd_lease.specs.Rules.{asking}
 use Rattle.kd_lease.specs.Seeking.{is_common_open}
 use Rattle.kd_lease.proofs.Least.{NoneUpTo}
-use Rattle.kd_lease.proofs.pools.least_common.Given as goal
+use Rattle.kd_lease.proofs.pool_search.least_common.Given as goal
 
 abbrev pub invariant-loop-from : goal.invariant-loop-from
 invariant-loop-from l = record {
