@@ -4,7 +4,7 @@ ghost use Rattle.kd_rows.specs.Row.{IsInRange};
 ghost use Rattle.kd_rows.specs.Table.{Rise, latest_of, least_of, room_for_row, row_at, with_row};
 
 use crate::grounds::Ground;
-use crate::withheld::withheld_of;
+use crate::reserve_list::withheld_of;
 use kd_config::Config;
 use kd_rows::{Row, Rows, Withheld};
 use std::alloc::{AllocError, Global};

@@ -36,13 +36,13 @@ mod ranks;
 mod recipient;
 mod reply;
 mod reservation;
+mod reserve_list;
 mod rule;
 mod search;
 mod server;
 mod subnet;
 mod values;
 mod verdict;
-mod withheld;
 
 pub use checks::{ending_of, holds};
 pub use client::asks_for;

@@ -4,7 +4,7 @@ use Rattle.std.proofs.lemmas.List.{take_all}
 use Rattle.kd_config.specs.Rules.{reserved}
 use Rattle.kd_config.specs.declared.subnet.Subnet.{Subnet}
 use Rattle.kd_lease.proofs.Withheld.{lists_reserved}
-use Rattle.kd_lease.proofs.withheld.reserved_addresses.Goals as goal
+use Rattle.kd_lease.proofs.reserve_list.reserved_addresses.Goals as goal
 
 pub returns : goal.returns
 returns c =
