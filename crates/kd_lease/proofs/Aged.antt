@@ -22,9 +22,9 @@ use Rattle.kd_lease.specs.Choice.Rank.{own, past}
 use Rattle.kd_lease.specs.Ranks.{IsRanked}
 use Rattle.kd_lease.specs.Rules.{IsNewest, asking, held_at, offered_state}
 use Rattle.kd_lease.specs.Seeking.{fitting_with, past_at, sought_at}
-use Rattle.kd_lease.specs.declared.choosing.Choosing.{Choosing}
-use Rattle.kd_lease.specs.declared.seeking.Sought.{Sought}
-use Rattle.kd_lease.specs.declared.seeking.Sought.TheVariants as seeks
+use Rattle.kd_lease.specs.declared.candidates.Choosing.{Choosing}
+use Rattle.kd_lease.specs.declared.search.Sought.{Sought}
+use Rattle.kd_lease.specs.declared.search.Sought.TheVariants as seeks
 use Rattle.kd_lease.proofs.Newest.{not_newer, not_newer_itself, own_sought, past_sought, sought_is_mine}
 
 -- the newest that passes a test is the newest that passes an equal test

@@ -10,9 +10,9 @@ use Rattle.kd_lease.specs.Choice.Rank.{own, past}
 use Rattle.kd_lease.specs.Rules.{IsNewest, asking, held_at, offered_state}
 use Rattle.kd_lease.specs.Ranks.{IsRanked}
 use Rattle.kd_lease.specs.Seeking.{common_in, fitting_with, newer_of, past_at, sought_at}
-use Rattle.kd_lease.specs.declared.choosing.Choosing.{Choosing}
-use Rattle.kd_lease.specs.declared.seeking.Sought.{Sought}
-use Rattle.kd_lease.specs.declared.seeking.Sought.TheVariants as seeks
+use Rattle.kd_lease.specs.declared.candidates.Choosing.{Choosing}
+use Rattle.kd_lease.specs.declared.search.Sought.{Sought}
+use Rattle.kd_lease.specs.declared.search.Sought.TheVariants as seeks
 use Rattle.kd_config.specs.declared.subnet.Subnet.{Subnet}
 
 -- what was found is the newest of those of the first n addresses that pass a test

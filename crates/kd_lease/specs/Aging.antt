@@ -7,9 +7,9 @@ use Rattle.kd_rows.specs.declared.row.State.{State}
 use Rattle.kd_lease.specs.Choice.{Asking, has_such, holding_state, pooled, same_address, set_later}
 use Rattle.kd_lease.specs.Rules.{offered_state}
 use Rattle.kd_lease.specs.Seeking.{sought_at}
-use Rattle.kd_lease.specs.declared.choosing.Choosing.{Choosing}
-use Rattle.kd_lease.specs.declared.seeking.Sought.{Sought}
-use Rattle.kd_lease.specs.declared.seeking.Sought.TheVariants as seeks
+use Rattle.kd_lease.specs.declared.candidates.Choosing.{Choosing}
+use Rattle.kd_lease.specs.declared.search.Sought.{Sought}
+use Rattle.kd_lease.specs.declared.search.Sought.TheVariants as seeks
 
 -- whether a row that is sought can be in this state
 abbrev pub state_sought : Sought → State → Bool

@@ -8,9 +8,9 @@ use Rattle.kd_rows.specs.Table.{row_at}
 use Rattle.kd_lease.specs.Choice.{Asking, Rank, fitting_for, has_such, live_row, pooled, reserved_anywhere, same_address, set_later, past_row, reserved_in}
 use Rattle.kd_lease.specs.Choice.Rank.{fresh, expired}
 use Rattle.kd_lease.specs.Rules.{held_at, offered_to}
-use Rattle.kd_lease.specs.declared.choosing.Choosing.{Choosing}
-use Rattle.kd_lease.specs.declared.seeking.Sought.{Sought}
-use Rattle.kd_lease.specs.declared.seeking.Sought.TheVariants as seeks
+use Rattle.kd_lease.specs.declared.candidates.Choosing.{Choosing}
+use Rattle.kd_lease.specs.declared.search.Sought.{Sought}
+use Rattle.kd_lease.specs.declared.search.Sought.TheVariants as seeks
 
 -- the row of an address is the client's and has ended
 abbrev pub past_at : Asking → ℕ → Bool

@@ -2,7 +2,7 @@ use Rattle.std.proofs.Common.{subst, sym}
 use Rattle.kd_lease.specs.Aging.{sought_for}
 use Rattle.kd_lease.specs.Rules.{IsNewest, asking}
 use Rattle.kd_lease.specs.Seeking.{sought_at}
-use Rattle.kd_lease.specs.declared.seeking.Sought.{Sought}
+use Rattle.kd_lease.specs.declared.search.Sought.{Sought}
 use Rattle.kd_lease.proofs.Aged.{newest_of_all_rows, newest_own, newest_past}
 use Rattle.kd_lease.proofs.ages.newest.Goals as goal
 

@@ -5,7 +5,7 @@ use Rattle.kd_lease.specs.Choice.{has_rank}
 use Rattle.kd_lease.specs.Choice.Rank.{own, past}
 use Rattle.kd_lease.specs.Rules.{asking}
 use Rattle.kd_lease.specs.Seeking.{sought_at}
-use Rattle.kd_lease.specs.declared.seeking.Sought.TheVariants as seeks
+use Rattle.kd_lease.specs.declared.search.Sought.TheVariants as seeks
 use Rattle.kd_lease.proofs.Newest.{all_own, all_past, better_is, better_of, better_same, get_past, known_more, own_sought, past_sought}
 use Rattle.kd_lease.proofs.search.newest_known.Goals as goal
 
