@@ -16,10 +16,13 @@ import toolchain
 ROW = re.compile(r"^\| (\w+) \| ([\d.]+) \|", re.M)
 # The most processes that one crate gets: a crate of many functions gains little from more.
 MOST_PROCESSES = 4
+# The memory of a proof with one process, as a part of what `rt` reckons, and what each further process adds, as a part of
+# that. Measured over 18 crates with one to four processes: 0.28 to 0.55 of what `rt` reckons for one.
+SHARE_OF_MEMORY, MORE_MEMORY = 0.6, 0.1
 # The minutes of proofs by which a chain of crates may be shorter than the longest and still count as one that others wait for.
 SLACK = 2
 # A proof that is running.
-Running = namedtuple("Running", "crate jobs is_waited_for needs began")
+Running = namedtuple("Running", "crate needs began")
 
 
 class NotProved(Exception):
@@ -142,19 +145,18 @@ def chains(crates, costs):
 def fitting(rt, crate, jobs, memory):
     """How many processes, of at most this many, a proof of the crate can have in this memory, but at least one; and the memory
     that they need."""
-    needs = rt.need(crate)
-    while jobs > 1 and needs * (1 + 0.6 * (jobs - 1)) > memory:
+    needs = SHARE_OF_MEMORY * rt.need(crate)
+    while jobs > 1 and needs * (1 + MORE_MEMORY * (jobs - 1)) > memory:
         jobs -= 1
-    return jobs, needs * (1 + 0.6 * (jobs - 1))
+    return jobs, needs * (1 + MORE_MEMORY * (jobs - 1))
 
 
 def side_by_side(rt, crates, proved, tell):
     """Proves these crates, each as soon as those below it are proved, where `proved` names the libraries that are ready. If
-    memory is free, each processor gets a crate, first the one that the longest chain waits for. That one and those whose chain
-    is hardly shorter have two processes, if there are processors for all of these, and the others take what they leave. A
-    crate gets more processes if there are fewer crates than processors, and fewer if there is no memory for them. If there is
-    none for a crate that a longest chain waits for, no other begins before it. Calls `tell` with each crate's name and
-    seconds."""
+    memory is free, each processor gets a crate, first the one that the longest chain waits for. A crate gets more processes only
+    if there are fewer crates than processors, because two processes take more of the processors than one. Those whose chain is
+    not nearly the longest take what the others leave. If there is no memory for a crate that a longest chain waits for, no other
+    begins before it. Calls `tell` with each crate's name and seconds."""
     above = chains(crates, minutes_of_proofs())
     left, running, proved = sorted(crates, key=lambda it: -above[it.name]), {}, {*proved}
     lanes, memory = rt.processors(), 0.85 * rt.free()
@@ -167,17 +169,15 @@ def side_by_side(rt, crates, proved, tell):
                 if len(running) == lanes:
                     break
                 is_waited_for = longest - above[crate.name] < SLACK
-                busy = sum(it.jobs for it in running.values() if it.is_waited_for)
-                least = 2 if is_waited_for and busy + 2 <= lanes else 1
                 free = memory - sum(it.needs for it in running.values())
-                jobs, needs = fitting(rt, crate, max(least, min(MOST_PROCESSES, idle)), free)
+                jobs, needs = fitting(rt, crate, max(1, min(MOST_PROCESSES, idle)), free)
                 if needs > free and running:
                     if is_waited_for:
                         break
                     continue
                 left.remove(crate)
                 begun = pool.submit(prove_library, rt, crate, jobs, is_waited_for)
-                running[begun] = Running(crate, jobs, is_waited_for, needs, time.monotonic())
+                running[begun] = Running(crate, needs, time.monotonic())
             for it in wait(running, return_when=FIRST_COMPLETED).done:
                 ended = running.pop(it)
                 it.result()
