@@ -7,7 +7,7 @@ use crate::lives::{openings_are_histories, openings_end};
 use crate::sent::no_reply_overlaps;
 use kd_database::restarts;
 use kd_host::{Below, Machine};
-use kd_io::{Output, Socket, System};
+use kd_io::{Output, Socket};
 use kd_keeps::Keeps;
 use kd_loops::{Link, Sink};
 use kd_program::Host;
@@ -60,11 +60,11 @@ pub fn goes_on<D: Disk, E: Disk>()
 /// database without bytes one from the empty table. Its calls are those of the datagrams that came
 /// or of the lines that were read, and what they returned is what was sent and written. A server
 /// that is opened on what a crash then leaves stands at rows to which that history leads.
-pub fn runs_are_histories<'a, S: System, F: Start, E: Disk>()
+pub fn runs_are_histories<'a, F: Start, E: Disk>()
     ensures { RunsAreHistories ⟦<Store<Below<F>> as Keeps>⟧ ⟦<Store<FileStore<E>> as Keeps>⟧
-        ⟦<Machine<'a, S, F, Below<F>> as Host>⟧ ⟦<Socket<'a> as Link>⟧ ⟦<Output<File> as Sink>⟧ }
+        ⟦<Machine<'a, HostRuntime, F, Below<F>> as Host>⟧ ⟦<Socket<'a> as Link>⟧ ⟦<Output<File> as Sink>⟧ }
 {
-    commands::<Machine<'a, S, F, Below<F>>, Store<Below<F>>, Store<FileStore<E>>>();
+    commands::<Machine<'a, HostRuntime, F, Below<F>>, Store<Below<F>>, Store<FileStore<E>>>();
     restarts::<FileFrom<F>, E>();
 }
 
@@ -76,11 +76,11 @@ pub fn runs_are_histories<'a, S: System, F: Start, E: Disk>()
 /// were read, and what they returned is what was sent and written. No two replies of all these
 /// openings overlap, as `no_reply_overlaps` says. The openings with this one lead to the table that
 /// the files then hold, whatever a crash leaves of them; so the law applies again to the next run.
-pub fn runs_never_overlap<'a, S: System, F: Start, E: Disk>()
+pub fn runs_never_overlap<'a, F: Start, E: Disk>()
     ensures { RunsNeverOverlap ⟦<Store<Below<F>> as Keeps>⟧ ⟦<Store<FileStore<E>> as Keeps>⟧
-        ⟦<Machine<'a, S, F, Below<F>> as Host>⟧ ⟦<Socket<'a> as Link>⟧ ⟦<Output<File> as Sink>⟧ }
+        ⟦<Machine<'a, HostRuntime, F, Below<F>> as Host>⟧ ⟦<Socket<'a> as Link>⟧ ⟦<Output<File> as Sink>⟧ }
 {
-    commands::<Machine<'a, S, F, Below<F>>, Store<Below<F>>, Store<FileStore<E>>>();
+    commands::<Machine<'a, HostRuntime, F, Below<F>>, Store<Below<F>>, Store<FileStore<E>>>();
     restarts::<FileFrom<F>, E>();
     no_reply_overlaps();
     kd_store::laws::stands_once::<E>();
