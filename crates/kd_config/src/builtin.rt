@@ -58,6 +58,7 @@ fn builtin_subnet(alloc: Global) -> Result<Subnet, AllocError>
             first: 0xc000_020a,
             last: 0xc000_020b,
         },
+        class: None,
         options: OptionList::own(Vec::new(alloc)),
     })?;
     Ok(Subnet {

@@ -1,7 +1,8 @@
 -- The lines of what the rules check (RFC 2131 section 4.3), up to the check at which a message
 -- ends.
 use Rattle.std.specs.Prelude.{◌≡◌, ℕ, ◌==◌, nat_lt, Bool, if◌then◌else◌, List, [], ◌∷◌, ◌++◌, Option, Some, None, Result, Err, codes}
-use Rattle.std.specs.List.{flat_map}
+use Rattle.std.specs.List.{flat_map, list_any}
+use Rattle.kd_config.specs.Apart.{has}
 use Rattle.kd_config.specs.declared.subnet.Subnet.{Subnet}
 use Rattle.kd_event.specs.declared.reason.Reason.{Reason}
 use Rattle.kd_event.specs.declared.reason.Reason.TheVariants as reasons
@@ -108,9 +109,15 @@ abbrev pub owner_line : Bool → List ℕ
 owner_line is_own =
     if is_own then codes "check owner: the client\n" else codes "check owner: not the client\n"
 
--- whether a pool contains the address
-abbrev pub pool_word : Bool → List ℕ
-pool_word is_in = if is_in then codes "in a pool" else codes "in no pool"
+-- a pool of the subnet contains the address, whoever may have it
+abbrev pub is_inside : Subnet → ℕ → Bool
+is_inside s a = list_any (λ pool. has pool.range a) s.pools
+
+-- whether a pool has the address for the client, or contains it for others
+abbrev pub pool_word : Bool → Bool → List ℕ
+pool_word is_given is_in =
+    if is_given then codes "in a pool"
+    else if is_in then codes "in a pool of another class" else codes "in no pool"
 
 -- whom the address is reserved for: the client, or anybody
 abbrev pub reserved_word : Bool → Bool → List ℕ
@@ -121,7 +128,7 @@ reserved_word is_its is_reserved =
 -- the pool and the reservation of the address in the subnet that serves the message
 abbrev pub place_words : Asking → Option Subnet → Option ℕ → List ℕ
 place_words q s a =
-    pool_word (passes_in pooled s a) ++ codes ", "
+    pool_word (passes_in (pooled q.names) s a) (passes_in is_inside s a) ++ codes ", "
     ++ reserved_word (passes_in (λ t b. same_address (address_reserved q.message t) b) s a)
     (passes (reserved_anywhere q.config) a)
 

@@ -1,9 +1,11 @@
 ghost use Rattle.std.specs.Prelude.{◌≡◌, ◌++◌, OnOk, Some, codes, option_copied, string_bytes};
+ghost use Rattle.std.specs.List.{list_any};
+ghost use Rattle.kd_config.specs.Apart.{has};
 ghost use Rattle.kd_lease.specs.Choice.{address_reserved, pooled, reserved_anywhere, same_address};
 ghost use Rattle.kd_lease.specs.Rules.{asking, passes, passes_in, serving_subnet};
 ghost use Rattle.kd_listing.specs.Leases.{word_of_live};
 ghost use Rattle.kd_text.specs.Text.{address_text};
-ghost use Rattle.kd_explain.specs.CheckLines.{address_line, address_source, fit_words, fits_line, free_line, held_line, known_line, offer_line, owner_line};
+ghost use Rattle.kd_explain.specs.CheckLines.{address_line, address_source, fit_words, fits_line, free_line, held_line, is_inside, known_line, offer_line, owner_line};
 ghost use Rattle.kd_explain.specs.CheckLines.{place_words, pool_word, prefix_line, renewed_source, reserved_word, row_line_at, row_words};
 ghost use Rattle.kd_explain.specs.CheckLines.{sender_line, served_line, served_word, server_line, which_word};
 
@@ -283,25 +285,56 @@ fn put_places(
         OnOk result (string_bytes out.new
         ≡ string_bytes out.old ++ place_words q (serving_subnet q) address) }
 {
-    out.push_str(pool_phrase(is_in_pool(question, address)))?;
+    out.push_str(pool_phrase(question, address))?;
     out.push_str(", ")?;
     out.push_str(reserved_phrase(question, address))?;
     Ok(())
 }
 
-fn pool_phrase(is_in: bool) -> &'static str
-    ensures { result.now ≡ pool_word is_in }
+fn pool_phrase(question: &Question<'_>, address: Option<u32>) -> &'static str
+    ensures { let q = asking question.now in
+        result.now ≡ pool_word (passes_in (pooled q.names) (serving_subnet q) address)
+        (passes_in is_inside (serving_subnet q) address) }
 {
-    if is_in { "in a pool" } else { "in no pool" }
+    if is_given(question, address) {
+        "in a pool"
+    } else if is_in_range(question, address) {
+        "in a pool of another class"
+    } else {
+        "in no pool"
+    }
 }
 
-fn is_in_pool(question: &Question<'_>, address: Option<u32>) -> bool
-    ensures { result ≡ passes_in pooled (serving_subnet (asking question.now)) address }
+// Reports whether a pool of the subnet that serves a message has an address for its client.
+fn is_given(question: &Question<'_>, address: Option<u32>) -> bool
+    ensures { let q = asking question.now in
+        result ≡ passes_in (pooled q.names) (serving_subnet q) address }
 {
     match (question.subnet, address) {
-        (Some(subnet), Some(address)) => in_pools(subnet, address),
+        (Some(subnet), Some(address)) => in_pools(question.names, subnet, address),
         _ => false,
     }
+}
+
+// Reports whether a pool of the subnet that serves a message contains an address, whoever may have
+// it.
+fn is_in_range(question: &Question<'_>, address: Option<u32>) -> bool
+    ensures { result ≡ passes_in is_inside (serving_subnet (asking question.now)) address }
+{
+    match (question.subnet, address) {
+        (Some(subnet), Some(address)) => contains(subnet, address),
+        _ => false,
+    }
+}
+
+fn contains(subnet: &Subnet, address: u32) -> bool
+    ensures { result ≡ is_inside subnet.now address }
+{
+    subnet
+        .pools
+        .as_slice()
+        .iter()
+        .any(|pool| pool.range.contains(address))
 }
 
 fn reserved_phrase(question: &Question<'_>, address: Option<u32>) -> &'static str

@@ -1,5 +1,5 @@
 -- A pool of a subnet.
-use Rattle.std.specs.Prelude.{◌-◌, nat_lt, Bool, [], ◌∷◌, codes, Option, Some}
+use Rattle.std.specs.Prelude.{◌-◌, nat_lt, Bool, [], ◌∷◌, codes, Option, Some, None}
 use Rattle.serde_json.specs.Data.{Data}
 use Rattle.serde_json.specs.Find.{as_str, get}
 use Rattle.kd_json.specs.Address.{addresses_spelled}
@@ -30,4 +30,4 @@ pool_of d = do
   _ ← must (has_pool_keys d)
   range ← get (codes "pool") d >>= pool_range
   options ← option_list_in (get (codes "option-data") d)
-  Some (record { range = range; options = options })
+  Some (record { range = range; class = None; options = options })

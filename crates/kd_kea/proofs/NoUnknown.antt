@@ -144,12 +144,16 @@ unfolding kea_pool pool_notes
 pool_pass known d pool path e =
     let keys = passed (keys_are_read pool_keys d) _ pool e in
     let range = came_from (get (codes "pool") d >>= kea_range) _ pool keys.1 in
-    let options = came_from (kea_options false known (get (codes "option-data") d)) _ pool range.gives in
+    let class = came_from (text_if_given (get (codes "client-class") d)) _ pool range.gives in
+    let options = came_from (kea_options false known (get (codes "option-data") d)) _ pool class.gives in
     let keyed = own_notes pool_keys path d in
     let of_range = note_unless (is_some (get (codes "pool") d >>= kea_range)) Wrong path (codes "pool") in
-    object_none (kea_pool known d) pool path d (keyed ++ of_range ++ option_notes false known path d) e (is_object pool_keys d keys.0)
-    (none_in_both (keyed ++ of_range) (option_notes false known path d)
+    let of_class = text_note (codes "client-class") path d in
+    object_none (kea_pool known d) pool path d (keyed ++ of_range ++ of_class ++ option_notes false known path d) e (is_object pool_keys d keys.0)
+    (none_in_both (keyed ++ of_range ++ of_class) (option_notes false known path d)
+    (none_in_both (keyed ++ of_range) of_class
     (none_in_both keyed of_range (own_pass pool_keys path d keys.0) (right (get (codes "pool") d >>= kea_range) range.first path (codes "pool") range.is))
+    (right (text_if_given (get (codes "client-class") d)) class.first path (codes "client-class") class.is))
     (options_pass false known d options.first path options.is))
 
 -- the options of a reservation
@@ -435,7 +439,7 @@ pub pool_noted : (known : List Definition) (path : List ℕ) (d : Data) → kea_
 unfolding pool_notes
 pool_noted known path d e =
     let of_range = note_unless (is_some (get (codes "pool") d >>= kea_range)) Wrong path (codes "pool") in
-    nothing_noted (kea_pool known d) path d (own_notes pool_keys path d ++ of_range ++ option_notes false known path d) e
+    nothing_noted (kea_pool known d) path d (own_notes pool_keys path d ++ of_range ++ text_note (codes "client-class") path d ++ option_notes false known path d) e
 
 pub host_noted : (known : List Definition) (bare : Bool) (path : List ℕ) (d : Data) → kea_reservation known bare d ≡ None → have_refused (host_notes known bare path d) ≡ true
 unfolding host_notes

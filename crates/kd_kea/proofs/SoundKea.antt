@@ -57,7 +57,8 @@ unfolding kea_pool
 pool_sound known d pool e =
     let keys = passed (keys_are_read pool_keys d) _ pool e in
     let range = came_from (option_and_then kea_range (get (codes "pool") d)) _ pool keys.1 in
-    let options = came_from (kea_options false known (get (codes "option-data") d)) _ pool range.gives in
+    let class = came_from (text_if_given (get (codes "client-class") d)) _ pool range.gives in
+    let options = came_from (kea_options false known (get (codes "option-data") d)) _ pool class.gives in
     let value = came_from (get (codes "pool") d) kea_range range.first range.is in
     subst IsWide (some_is _ pool options.gives) (record {
       some = range_rises value.first range.first value.gives;

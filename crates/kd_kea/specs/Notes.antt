@@ -404,6 +404,7 @@ pool_notes known path d =
     object_notes (is_some (kea_pool known d)) path d
     (own_notes pool_keys path d
     ++ note_unless (is_some (get (codes "pool") d >>= kea_range)) Wrong path (codes "pool")
+    ++ text_note (codes "client-class") path d
     ++ option_notes false known path d)
 
 -- the note on a host name, if there is one: it is wrong, or it would have a suffix

@@ -6,9 +6,11 @@ use Rattle.kd_config.specs.declared.pool.Pool.{Pool}
 use Rattle.kd_config.specs.declared.range.Range.{Range}
 use Rattle.kd_json.specs.Pool.{pool_addresses}
 use Rattle.kd_json.specs.Steps.{must, only_if}
+use Rattle.kd_json.specs.Values.{text_if_given}
 use Rattle.kd_kea.specs.Keys.{keys_are_read}
 use Rattle.kd_kea.specs.Options.{kea_options}
 use Rattle.kd_kea.specs.Tables.{pool_keys}
+use Rattle.kd_kea.specs.Values.{unless_empty}
 use Rattle.kd_kea.specs.declared.objects.definition.Definition.{Definition}
 use Rattle.kd_wire.specs.Steps.{◌>>=◌}
 
@@ -18,10 +20,11 @@ kea_range d = do
   range ← pool_addresses d
   only_if (nat_lt (range.last - range.first) 4194304) range
 
--- the pool that a value describes, with these definitions of options
+-- the pool that a value describes, with these definitions of options; an empty class is none
 unfoldable pub kea_pool : List Definition → Data → Option Pool
 kea_pool known d = do
   _ ← must (keys_are_read pool_keys d)
   range ← get (codes "pool") d >>= kea_range
+  class ← text_if_given (get (codes "client-class") d)
   options ← kea_options false known (get (codes "option-data") d)
-  Some (record { range = range; options = options })
+  Some (record { range = range; class = unless_empty class; options = options })

@@ -151,6 +151,7 @@ relay_keys =
 abbrev pub pool_keys : List (List ℕ × KeyUse)
 pool_keys =
     (codes "pool", served)
+    ∷ (codes "client-class", served)
     ∷ (codes "option-data", served)
     ∷ (codes "pool-id", skipped)
     ∷ required_keys ++ remarks

@@ -191,6 +191,7 @@ const RELAY: &[Row] = &[
 // Keys of a pool.
 const POOL: &[Row] = &[
     ("pool", KeyRule::Served),
+    ("client-class", KeyRule::Served),
     ("option-data", KeyRule::Served),
     ("pool-id", KeyRule::Skipped),
 ];

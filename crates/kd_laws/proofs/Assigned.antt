@@ -13,13 +13,13 @@ use Rattle.kd_config.specs.declared.reservation.Identity.{Identity}
 use Rattle.kd_config.specs.declared.reservation.Reservation.{Reservation}
 use Rattle.kd_config.specs.declared.subnet.Subnet.{Subnet}
 use Rattle.kd_event.specs.declared.reason.Reason.{Reason}
-use Rattle.kd_lease.specs.Choice.{Asking, Rank, address_reserved, client_reservation, fitting_for, free_for, has_rank, has_such, held_row, is_from, live_row, past_row, pooled, requested_address, reserved_anywhere, same_address, usable}
+use Rattle.kd_lease.specs.Choice.{Asking, Rank, address_reserved, client_reservation, fitting_for, free_for, has_rank, has_such, held_row, is_from, live_row, past_row, pool_gives, pooled, requested_address, reserved_anywhere, same_address, usable}
 use Rattle.kd_lease.specs.Choice.Rank.{reserved as reserved_rank, own, past, asked, fresh, expired}
 use Rattle.kd_lease.specs.Laws.{EndsAreFounded, IsFounded}
 use Rattle.kd_lease.specs.Plan.{Outcome, ReplyOption}
 use Rattle.kd_lease.specs.Plan.Outcome.{planned, quiet}
 use Rattle.kd_lease.specs.Rules.{Does, IsReplyOf, IsSilent, Makes, client_has, declined_row, ending, released_row, renewable, rule_of, serving_subnet}
-use Rattle.kd_lease.specs.SubnetOf.{is_by_relay, message_place, served_by, subnet_serving}
+use Rattle.kd_lease.specs.SubnetOf.{class_admits, is_by_relay, message_place, served_by, subnet_serving}
 use Rattle.kd_lease.specs.declared.plan.PlanKind.{PlanKind}
 use Rattle.kd_lease.specs.declared.plan.PlanKind.TheVariants as kinds
 use Rattle.kd_lease.specs.declared.rule.Ending.{Ending}
@@ -65,11 +65,11 @@ pool_32 prefix pool a is within inside =
     omega (arith, last, below)
 
 -- the same of some pool of several
-pools_32 : (prefix : Prefix) (pools : List Pool) (a : ℕ) → IsPrefix prefix → list_all (lies_within prefix) pools ≡ true → list_any (λ pool. has pool.range a) pools ≡ true → a < 2 ^ 32
-pools_32 prefix [] a is within inside = absurd (false≢true inside)
-pools_32 prefix (pool ∷ pools) a is within inside =
+pools_32 : (names : List (List ℕ)) (prefix : Prefix) (pools : List Pool) (a : ℕ) → IsPrefix prefix → list_all (lies_within prefix) pools ≡ true → list_any (λ pool. pool_gives names pool a) pools ≡ true → a < 2 ^ 32
+pools_32 names prefix [] a is within inside = absurd (false≢true inside)
+pools_32 names prefix (pool ∷ pools) a is within inside =
     let parts = and_parts (lies_within prefix pool) (list_all (lies_within prefix) pools) within in
-    ⊎_elim (λ here. pool_32 prefix pool a is parts.0 here) (λ later. pools_32 prefix pools a is parts.1 later) (or_cases (has pool.range a) (list_any (λ p. has p.range a) pools) inside)
+    ⊎_elim (λ here. pool_32 prefix pool a is parts.0 (and_parts (class_admits pool.class names) (has pool.range a) here).1) (λ later. pools_32 names prefix pools a is parts.1 later) (or_cases (pool_gives names pool a) (list_any (λ p. pool_gives names p a) pools) inside)
 
 -- a reservation is of an address in the prefix
 InPrefix : Prefix → Reservation → Type 0
@@ -99,9 +99,9 @@ fitting_32 q s a is fits =
     let rules = and_parts (list_all (lies_within s.prefix) s.pools) (may_all_reserve s.prefix is.earlier [] s.reservations) is.rules in
     let inside = find-each (InPrefix s.prefix) (λ r. is_from q.message r.identity) s.reservations (reserved_inside s.prefix is.earlier [] s.reservations rules.1) in
     ⊎_elim
-    (λ open_one. pools_32 s.prefix s.pools a is.sound.prefix rules.0 (and_parts (pooled s a) (not (reserved_anywhere q.config a)) open_one).0)
+    (λ open_one. pools_32 q.names s.prefix s.pools a is.sound.prefix rules.0 (and_parts (pooled q.names s a) (not (reserved_anywhere q.config a)) open_one).0)
     (λ mine. same_32 s.prefix (client_reservation q.message s) a is.sound.prefix inside mine)
-    (or_cases (pooled s a && not (reserved_anywhere q.config a)) (same_address (address_reserved q.message s) a) fits)
+    (or_cases (pooled q.names s a && not (reserved_anywhere q.config a)) (same_address (address_reserved q.message s) a) fits)
 
 -- what holds if its second part does
 or_second : (x y : Bool) → y ≡ true → (x || y) ≡ true
@@ -112,16 +112,16 @@ or_second false y is = is
 ranked_fits : (q : Asking) (s : Subnet) (rank : Rank) (a : ℕ) → has_rank q s rank a ≡ true → fitting_for q s a ≡ true
 ranked_fits q s reserved_rank a h =
     let own_one = same_address (address_reserved q.message s) a in
-    or_second (pooled s a && not (reserved_anywhere q.config a)) own_one (and_parts own_one (free_for q a) h).0
+    or_second (pooled q.names s a && not (reserved_anywhere q.config a)) own_one (and_parts own_one (free_for q a) h).0
 ranked_fits q s own a h = (and_parts (has_such (held_row q) (row_at q.rows a)) (fitting_for q s a) h).1
 ranked_fits q s past a h = (and_parts (has_such (past_row q) (row_at q.rows a)) (fitting_for q s a) h).1
 ranked_fits q s asked a h =
     (and_parts (fitting_for q s a) (free_for q a) (and_parts (same_address (requested_address q.message) a) (usable q s a) h).1).0
 ranked_fits q s fresh a h =
-    (and_parts (is_none (row_at q.rows a)) (fitting_for q s a) (and_parts (pooled s a) (is_none (row_at q.rows a) && fitting_for q s a) h).1).1
+    (and_parts (is_none (row_at q.rows a)) (fitting_for q s a) (and_parts (pooled q.names s a) (is_none (row_at q.rows a) && fitting_for q s a) h).1).1
 ranked_fits q s expired a h =
     let ended = has_such (λ row. not (live_row q.now row)) (row_at q.rows a) in
-    (and_parts ended (fitting_for q s a) (and_parts (pooled s a) (ended && fitting_for q s a) h).1).1
+    (and_parts ended (fitting_for q s a) (and_parts (pooled q.names s a) (ended && fitting_for q s a) h).1).1
 
 -- a reply, if there is one, assigns an address of 32 bits, or zero
 Assigns32 : Outcome → Type 0

@@ -16,12 +16,13 @@ use Rattle.kd_rows.specs.declared.row.Row.{Row}
 use Rattle.kd_rows.specs.declared.row.State.{State}
 use Rattle.kd_rows.specs.declared.row.State.TheVariants.{Offered, Bound, Released, Declined}
 use Rattle.kd_rows.proofs.Zoned.{no_or, or_no}
-use Rattle.kd_lease.specs.Aging.{is_in_state, is_within, live_sought, newer_found, reserved_sought, sought_for, sought_in, sought_within, state_sought}
-use Rattle.kd_lease.specs.Choice.{Asking, Rank, changed_in, has_rank, has_such, held_row, holding_state, is_before, live_row, pooled, reserved_anywhere, same_address, set_later}
+use Rattle.kd_lease.specs.Aging.{given_sought, is_in_state, is_within, live_sought, newer_found, reserved_sought, sought_for, sought_in, sought_within, state_sought}
+use Rattle.kd_lease.specs.Choice.{Asking, Rank, changed_in, has_rank, has_such, held_row, holding_state, is_before, live_row, pool_gives, pooled, reserved_anywhere, same_address, set_later}
 use Rattle.kd_lease.specs.Choice.Rank.{own, past}
 use Rattle.kd_lease.specs.Ranks.{IsRanked}
 use Rattle.kd_lease.specs.Rules.{IsNewest, asking, held_at, offered_state}
 use Rattle.kd_lease.specs.Seeking.{fitting_with, past_at, sought_at}
+use Rattle.kd_lease.specs.SubnetOf.{class_admits}
 use Rattle.kd_lease.specs.declared.candidates.Choosing.{Choosing}
 use Rattle.kd_lease.specs.declared.search.Sought.{Sought}
 use Rattle.kd_lease.specs.declared.search.Sought.TheVariants as seeks
@@ -330,41 +331,41 @@ reached_ended q sought state first last r reached not_it live ended a = by (soug
       state_is : s.row.state ≡ state
       state_is = same_state s.row.state state (and_parts (is_in_state state s.row) _ (and_parts (belongs_to q.client s.row) _ s.of).1).0
 
--- the sought addresses that are reserved for the client or are in the first n pools
+-- the sought addresses that are reserved for the client or that one of the first n pools has for it
 abbrev pub sought_up_to : Asking → Sought → Choosing → ℕ → ℕ → Bool
-sought_up_to q sought choosing n a = sought_at q sought a && (same_address choosing.own a || list_any (λ pool. has pool.range a) (take n choosing.subnet.now.pools))
+sought_up_to q sought choosing n a = sought_at q sought a && (same_address choosing.own a || list_any (λ pool. pool_gives choosing.question.now.names.now pool a) (take n choosing.subnet.now.pools))
 
 pub no_pool_yet : (q : Asking) (sought : Sought) (choosing : Choosing) (best : Option ℕ) → IsNewest q.rows (reserved_sought q sought choosing.own) best → IsNewest q.rows (sought_up_to q sought choosing 0) best
 no_pool_yet q sought choosing best = newest_alike q.rows (reserved_sought q sought choosing.own) (sought_up_to q sought choosing 0) best (λ a. ap (λ (t : Bool). sought_at q sought a && t) (no_or (same_address choosing.own a) false refl))
 
 -- one more pool
 pub pool_more : (q : Asking) (sought : Sought) (choosing : Choosing) (n : ℕ) (pool : Pool) (best found : Option ℕ) → n < length choosing.subnet.now.pools → pool ≡ get_or choosing.subnet.now.pools n pool → IsNewest q.rows (sought_up_to q sought choosing n) best
-    → IsNewest q.rows (sought_within q sought pool.range.first pool.range.last) found → IsNewest q.rows (sought_up_to q sought choosing (n + 1)) (newer_found q.rows best found)
-pool_more q sought choosing n pool best found less is h g = newest_of_both q.rows (sought_up_to q sought choosing n) (sought_within q sought pool.range.first pool.range.last) (sought_up_to q sought choosing (n + 1)) best found each h g where
+    → IsNewest q.rows (given_sought q sought choosing.question.now.names.now pool) found → IsNewest q.rows (sought_up_to q sought choosing (n + 1)) (newer_found q.rows best found)
+pool_more q sought choosing n pool best found less is h g = newest_of_both q.rows (sought_up_to q sought choosing n) (given_sought q sought choosing.question.now.names.now pool) (sought_up_to q sought choosing (n + 1)) best found each h g where
   by : (w r t u : Bool) → (w && (r || (t || u))) ≡ ((w && (r || t)) || (w && u))
   by true true t u = refl
   by true false t u = refl
   by false r t u = refl
 
-  each : (a : ℕ) → sought_up_to q sought choosing (n + 1) a ≡ (sought_up_to q sought choosing n a || sought_within q sought pool.range.first pool.range.last a)
+  each : (a : ℕ) → sought_up_to q sought choosing (n + 1) a ≡ (sought_up_to q sought choosing n a || given_sought q sought choosing.question.now.names.now pool a)
   each a =
-      ap (λ (t : Bool). sought_at q sought a && (same_address choosing.own a || t)) (list_any_more (λ p. has p.range a) choosing.subnet.now.pools n pool less ∙ ap (λ (p : Pool). list_any (λ o. has o.range a) (take n choosing.subnet.now.pools) || has p.range a) (sym is))
-      ∙ by (sought_at q sought a) (same_address choosing.own a) (list_any (λ p. has p.range a) (take n choosing.subnet.now.pools)) (has pool.range a)
+      ap (λ (t : Bool). sought_at q sought a && (same_address choosing.own a || t)) (list_any_more (λ p. pool_gives choosing.question.now.names.now p a) choosing.subnet.now.pools n pool less ∙ ap (λ (p : Pool). list_any (λ o. pool_gives choosing.question.now.names.now o a) (take n choosing.subnet.now.pools) || pool_gives choosing.question.now.names.now p a) (sym is))
+      ∙ by (sought_at q sought a) (same_address choosing.own a) (list_any (λ p. pool_gives choosing.question.now.names.now p a) (take n choosing.subnet.now.pools)) (pool_gives choosing.question.now.names.now pool a)
 
 pub all_pools : (q : Asking) (sought : Sought) (choosing : Choosing) (n : ℕ) (best : Option ℕ) → length choosing.subnet.now.pools ≤ n → IsNewest q.rows (sought_up_to q sought choosing n) best → IsNewest q.rows (sought_for q sought choosing) best
-all_pools q sought choosing n best all = newest_alike q.rows (sought_up_to q sought choosing n) (sought_for q sought choosing) best (λ a. ap (λ (pools : List Pool). sought_at q sought a && (same_address choosing.own a || list_any (λ p. has p.range a) pools)) (sym (take_all n choosing.subnet.now.pools all)))
+all_pools q sought choosing n best all = newest_alike q.rows (sought_up_to q sought choosing n) (sought_for q sought choosing) best (λ a. ap (λ (pools : List Pool). sought_at q sought a && (same_address choosing.own a || list_any (λ p. pool_gives choosing.question.now.names.now p a) pools)) (sym (take_all n choosing.subnet.now.pools all)))
 
 -- an address that fits is reserved for the client or in a pool
-fits_somewhere : (choosing : Choosing) (a : ℕ) → fitting_with choosing a ≡ true → (same_address choosing.own a || pooled choosing.subnet.now a) ≡ true
-fits_somewhere choosing a = by (pooled choosing.subnet.now a) (reserved_anywhere choosing.question.now.config.now a) (same_address choosing.own a) where
+fits_somewhere : (choosing : Choosing) (a : ℕ) → fitting_with choosing a ≡ true → (same_address choosing.own a || pooled choosing.question.now.names.now choosing.subnet.now a) ≡ true
+fits_somewhere choosing a = by (pooled choosing.question.now.names.now choosing.subnet.now a) (reserved_anywhere choosing.question.now.config.now a) (same_address choosing.own a) where
   by : (t u w : Bool) → ((t && not u) || w) ≡ true → (w || t) ≡ true
   by t u true h = refl
   by true u false h = refl
   by false u false h = h
 
-in_subnet : (choosing : Choosing) (t : ℕ → Bool) (a : ℕ) → ((t a && fitting_with choosing a) && (same_address choosing.own a || pooled choosing.subnet.now a)) ≡ (t a && fitting_with choosing a)
+in_subnet : (choosing : Choosing) (t : ℕ → Bool) (a : ℕ) → ((t a && fitting_with choosing a) && (same_address choosing.own a || pooled choosing.question.now.names.now choosing.subnet.now a)) ≡ (t a && fitting_with choosing a)
 in_subnet choosing t a = by (t a && fitting_with choosing a) (λ h. fits_somewhere choosing a (and_parts (t a) (fitting_with choosing a) h).1) where
-  by : (w : Bool) → (w ≡ true → (same_address choosing.own a || pooled choosing.subnet.now a) ≡ true) → (w && (same_address choosing.own a || pooled choosing.subnet.now a)) ≡ w
+  by : (w : Bool) → (w ≡ true → (same_address choosing.own a || pooled choosing.question.now.names.now choosing.subnet.now a) ≡ true) → (w && (same_address choosing.own a || pooled choosing.question.now.names.now choosing.subnet.now a)) ≡ w
   by true h = h refl
   by false h = refl
 
@@ -437,3 +438,14 @@ reached_row q sought state first last found row is = subst (λ (o : Option (Bor 
 
 pub reached_no_row : (q : Asking) (sought : Sought) (state : State) (first last : ℕ) (found : Option (Bor Row)) → found ≡ None → IsReached q sought state first last (option_copied found) → IsReached q sought state first last None
 reached_no_row q sought state first last found is = subst (λ (o : Option (Bor Row)). IsReached q sought state first last (option_copied o)) is
+
+-- where the class of a pool is held, those within its addresses are what it has for the client
+pub given_within : (q : Asking) (sought : Sought) (names : List (List ℕ)) (pool : Pool) (best : Option ℕ) → class_admits pool.class names ≡ true → IsNewest q.rows (sought_within q sought pool.range.first pool.range.last) best → IsNewest q.rows (given_sought q sought names pool) best
+given_within q sought names pool best held = newest_alike q.rows (sought_within q sought pool.range.first pool.range.last) (given_sought q sought names pool) best (λ a. ap (λ (t : Bool). sought_at q sought a && (t && is_within pool.range.first pool.range.last a)) held)
+
+-- where it is not, the pool has none of them
+pub given_none : (q : Asking) (sought : Sought) (names : List (List ℕ)) (pool : Pool) → class_admits pool.class names ≡ false → IsNewest q.rows (given_sought q sought names pool) None
+given_none q sought names pool other a = ap (λ (t : Bool). sought_at q sought a && (t && has pool.range a)) other ∙ no_and_after (sought_at q sought a) where
+  no_and_after : (t : Bool) → (t && false) ≡ false
+  no_and_after true = refl
+  no_and_after false = refl

@@ -49,9 +49,9 @@ no_rank q s past a row h =
 no_rank q s asked a row h =
     and_no (same_address (requested_address q.message) a) (fitting_for q s a && free_for q a) (and_no (fitting_for q s a) (free_for q a) (not_free q a row h))
 no_rank q s fresh a row h =
-    and_no (pooled s a) (is_none (row_at q.rows a) && fitting_for q s a) (no_and (is_none (row_at q.rows a)) (fitting_for q s a) (ap is_none h.there))
+    and_no (pooled q.names s a) (is_none (row_at q.rows a) && fitting_for q s a) (no_and (is_none (row_at q.rows a)) (fitting_for q s a) (ap is_none h.there))
 no_rank q s expired a row h =
-    and_no (pooled s a) (has_such (λ r. not (live_row q.now r)) (row_at q.rows a) && fitting_for q s a)
+    and_no (pooled q.names s a) (has_such (λ r. not (live_row q.now r)) (row_at q.rows a) && fitting_for q s a)
     (no_and (has_such (λ r. not (live_row q.now r)) (row_at q.rows a)) (fitting_for q s a) (ap (has_such (λ r. not (live_row q.now r))) h.there ∙ not_ended (live_row q.now row) h.live))
 
 pub not_usable : (q : Asking) (s : Subnet) (a : ℕ) (row : Row) → IsAnothers q a row → usable q s a ≡ false

@@ -36,7 +36,7 @@ split true false false = refl
 split false c o = refl
 
 opens : (q : Asking) (s : Subnet) (new : Bool) (a : ℕ) → is_open q s new a ≡ (is_kept_open q (address_reserved q.message s) new a || is_common_open q s new a)
-opens q s new a = split (untaken q new a) (common_in q.config s a) (same_address (address_reserved q.message s) a)
+opens q s new a = split (untaken q new a) (common_in q.config q.names s a) (same_address (address_reserved q.message s) a)
 
 same_least : (p r : ℕ → Bool) (first last : ℕ) (x : Option ℕ) → ((a : ℕ) → r a ≡ p a) → IsLeast p first last x → IsLeast r first last x
 same_least p r first last None same h = λ a low high. same a ∙ h a low high
@@ -48,7 +48,7 @@ lesser_open q s new first last x y hx hy = same_least (λ a. is_kept_open q (add
 
 -- an address that is not vacant is not open to all
 vacant : (q : Asking) (s : Subnet) (new : Bool) (a : ℕ) → is_vacant q new a ≡ false → is_common_open q s new a ≡ false
-vacant q s new a h = by (untaken q new a) (pooled s a) (not (reserved_anywhere q.config a)) h where
+vacant q s new a h = by (untaken q new a) (pooled q.names s a) (not (reserved_anywhere q.config a)) h where
   by : (u p r : Bool) → (u && r) ≡ false → (u && (p && r)) ≡ false
   by true true r h = h
   by true false r h = refl
@@ -73,7 +73,7 @@ none_next q s new first last from found before next other a low less = ⊎_elim
     (cases_eq a found)
   where
     here : is_common_open q s new found ≡ false
-    here = by (untaken q new found) (common_in q.config s found) other where
+    here = by (untaken q new found) (common_in q.config q.names s found) other where
       by : (u t : Bool) → t ≡ false → (u && t) ≡ false
       by true t h = h
       by false t h = refl

@@ -117,7 +117,7 @@ better_is q sought (Some b) a = refl
 
 -- what fits a choice is what fits its subnet for its client
 fits_same : (choosing : Choosing) (such : ℕ → Bool) (b : ℕ) → (such b && fitting_with choosing b) ≡ (such b && fitting_for (asking choosing.question.now) choosing.subnet.now b)
-fits_same choosing such b = ap (λ (own : Option ℕ). such b && (common_in choosing.question.now.config.now choosing.subnet.now b || same_address own b)) choosing.reserved
+fits_same choosing such b = ap (λ (own : Option ℕ). such b && (common_in choosing.question.now.config.now choosing.question.now.names.now choosing.subnet.now b || same_address own b)) choosing.reserved
 
 -- an address sought among those that the client holds, or held before, has that rank
 pub own_sought : (choosing : Bor Choosing) (b : ℕ) → sought_at (asking choosing.now.question.now) (seeks.Own choosing) b ≡ has_rank (asking choosing.now.question.now) choosing.now.subnet.now own b

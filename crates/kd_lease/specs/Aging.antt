@@ -4,7 +4,8 @@ use Rattle.kd_rows.specs.Row.{state_number}
 use Rattle.kd_rows.specs.Table.{row_at}
 use Rattle.kd_rows.specs.declared.row.Row.{Row}
 use Rattle.kd_rows.specs.declared.row.State.{State}
-use Rattle.kd_lease.specs.Choice.{Asking, has_such, holding_state, pooled, same_address, set_later}
+use Rattle.kd_config.specs.declared.pool.Pool.{Pool}
+use Rattle.kd_lease.specs.Choice.{Asking, has_such, holding_state, pool_gives, pooled, same_address, set_later}
 use Rattle.kd_lease.specs.Rules.{offered_state}
 use Rattle.kd_lease.specs.Seeking.{sought_at}
 use Rattle.kd_lease.specs.declared.candidates.Choosing.{Choosing}
@@ -44,10 +45,16 @@ live_sought seeks.Offer = true
 abbrev pub reserved_sought : Asking → Sought → Option ℕ → ℕ → Bool
 reserved_sought q sought own a = sought_at q sought a && same_address own a
 
--- an address is sought and is reserved for the client in a subnet, or is in a pool of it
+-- an address is sought, and a pool has it for a client in the classes with these names
+abbrev pub given_sought : Asking → Sought → List (List ℕ) → Pool → ℕ → Bool
+given_sought q sought names pool a = sought_at q sought a && pool_gives names pool a
+
+-- an address is sought and is reserved for the client in a subnet, or a pool of it has it for the
+-- client
 abbrev pub sought_for : Asking → Sought → Choosing → ℕ → Bool
 sought_for q sought choosing a =
-    sought_at q sought a && (same_address choosing.own a || pooled choosing.subnet.now a)
+    sought_at q sought a
+    && (same_address choosing.own a || pooled choosing.question.now.names.now choosing.subnet.now a)
 
 -- the newer of two addresses; either may be missing
 abbrev pub newer_found : List Row → Option ℕ → Option ℕ → Option ℕ

@@ -13,6 +13,7 @@ use Rattle.kd_config.specs.declared.reservation.Identity.{Identity}
 use Rattle.kd_config.specs.declared.reservation.Identity.TheVariants.{Hardware, ClientId}
 use Rattle.kd_config.specs.declared.reservation.Reservation.{Reservation}
 use Rattle.kd_config.specs.declared.subnet.Subnet.{Subnet}
+use Rattle.kd_lease.specs.SubnetOf.{class_admits}
 use Rattle.kd_options.specs.Joined.{value_of}
 use Rattle.kd_options.specs.Message.{Seen, mac_of}
 use Rattle.kd_rows.specs.Table.{belongs_to, row_at}
@@ -61,14 +62,19 @@ abbrev pub same_address : Option ℕ → ℕ → Bool
 same_address None a = false
 same_address (Some b) a = b == a
 
--- this address is in a pool of the subnet
-abbrev pub pooled : Subnet → ℕ → Bool
-pooled s a = list_any (λ pool. has pool.range a) s.pools
+-- a pool has an address for a client in the classes with these names
+abbrev pub pool_gives : List (List ℕ) → Pool → ℕ → Bool
+pool_gives names pool a = class_admits pool.class names && has pool.range a
 
--- an address fits: it is in a pool of the subnet and not reserved, or it is reserved for the client
+-- a pool of the subnet has this address for such a client
+abbrev pub pooled : List (List ℕ) → Subnet → ℕ → Bool
+pooled names s a = list_any (λ pool. pool_gives names pool a) s.pools
+
+-- an address fits: a pool of the subnet has it for the client and it is not reserved, or it is
+-- reserved for the client
 abbrev pub fitting_for : Asking → Subnet → ℕ → Bool
 fitting_for q s a =
-    (pooled s a && not (reserved_anywhere q.config a))
+    (pooled q.names s a && not (reserved_anywhere q.config a))
     || same_address (address_reserved q.message s) a
 
 -- there is a row, and it passes the test
@@ -146,9 +152,9 @@ has_rank q s reserved a = same_address (address_reserved q.message s) a && free_
 has_rank q s own a = has_such (held_row q) (row_at q.rows a) && fitting_for q s a
 has_rank q s past a = has_such (past_row q) (row_at q.rows a) && fitting_for q s a
 has_rank q s asked a = same_address (requested_address q.message) a && usable q s a
-has_rank q s fresh a = pooled s a && (is_none (row_at q.rows a) && fitting_for q s a)
+has_rank q s fresh a = pooled q.names s a && (is_none (row_at q.rows a) && fitting_for q s a)
 has_rank q s expired a =
-    pooled s a && (has_such (λ row. not (live_row q.now row)) (row_at q.rows a)
+    pooled q.names s a && (has_such (λ row. not (live_row q.now row)) (row_at q.rows a)
     && fitting_for q s a)
 
 -- the time at which a row was set, 0 if there is none
@@ -164,17 +170,18 @@ set_later rows a b =
     let n = changed_in (row_at rows b) in
     nat_lt n m || (m == n && nat_lt a b)
 
--- the index of the first pool that contains an address
-abbrev pub pool_place : List Pool → ℕ → ℕ
-pool_place [] a = 0
-pool_place (pool ∷ pools) a = if has pool.range a then 0 else pool_place pools a + 1
+-- the index of the first pool that has an address for a client in the classes with these names
+abbrev pub pool_place : List (List ℕ) → List Pool → ℕ → ℕ
+pool_place names [] a = 0
+pool_place names (pool ∷ pools) a =
+    if pool_gives names pool a then 0 else pool_place names pools a + 1
 
 -- the first of two addresses is earlier: in an earlier pool, or in the same pool and it is the
 -- lesser address
-abbrev pub is_earlier : List Pool → ℕ → ℕ → Bool
-is_earlier pools a b =
-    let m = pool_place pools a in
-    let n = pool_place pools b in
+abbrev pub is_earlier : List (List ℕ) → List Pool → ℕ → ℕ → Bool
+is_earlier names pools a b =
+    let m = pool_place names pools a in
+    let n = pool_place names pools b in
     nat_lt m n || (m == n && nat_lt a b)
 
 -- the first of two addresses of a rank comes before the other
@@ -183,8 +190,8 @@ is_before q s reserved a b = false
 is_before q s own a b = set_later q.rows a b
 is_before q s past a b = set_later q.rows a b
 is_before q s asked a b = false
-is_before q s fresh a b = is_earlier s.pools a b
-is_before q s expired a b = is_earlier s.pools a b
+is_before q s fresh a b = is_earlier q.names s.pools a b
+is_before q s expired a b = is_earlier q.names s.pools a b
 
 -- an address is the first of a rank: it has the rank, and no other that has it comes before
 pub record IsFirstOf (q : Asking) (s : Subnet) (rank : Rank) (a : ℕ) : Type 0 where

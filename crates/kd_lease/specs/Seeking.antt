@@ -1,11 +1,12 @@
 -- Helpers of private contracts only: what the rules are applied to as the code represents it, and
 -- what is searched among a client's addresses and in pools.
-use Rattle.std.specs.Prelude.{◌≡◌, ℕ, ◌<◌, ◌≤◌, Bool, true, false, not, ◌&&◌, ◌||◌, is_none, Option, Some, None, if◌then◌else◌}
+use Rattle.std.specs.Prelude.{◌≡◌, ℕ, ◌<◌, ◌≤◌, Bool, true, false, not, ◌&&◌, ◌||◌, is_none, List, Option, Some, None, if◌then◌else◌}
 use Rattle.kd_config.specs.Address.{has_address}
 use Rattle.kd_config.specs.Configuration.{Configuration}
+use Rattle.kd_config.specs.declared.pool.Pool.{Pool}
 use Rattle.kd_config.specs.declared.subnet.Subnet.{Subnet}
 use Rattle.kd_rows.specs.Table.{row_at}
-use Rattle.kd_lease.specs.Choice.{Asking, Rank, fitting_for, has_such, live_row, pooled, reserved_anywhere, same_address, set_later, past_row, reserved_in}
+use Rattle.kd_lease.specs.Choice.{Asking, Rank, fitting_for, has_such, live_row, pool_gives, pooled, reserved_anywhere, same_address, set_later, past_row, reserved_in}
 use Rattle.kd_lease.specs.Choice.Rank.{fresh, expired}
 use Rattle.kd_lease.specs.Rules.{held_at, offered_to}
 use Rattle.kd_lease.specs.declared.candidates.Choosing.{Choosing}
@@ -16,14 +17,16 @@ use Rattle.kd_lease.specs.declared.search.Sought.TheVariants as seeks
 abbrev pub past_at : Asking → ℕ → Bool
 past_at q a = has_such (past_row q) (row_at q.rows a)
 
--- an address is in a pool of the subnet and not reserved
-abbrev pub common_in : Configuration → Subnet → ℕ → Bool
-common_in config s a = pooled s a && not (reserved_anywhere config a)
+-- a pool of the subnet has an address for a client in the classes with these names, and it is not
+-- reserved
+abbrev pub common_in : Configuration → List (List ℕ) → Subnet → ℕ → Bool
+common_in config names s a = pooled names s a && not (reserved_anywhere config a)
 
 -- an address fits: as above, or it is the one that is reserved for the client
 abbrev pub fitting_with : Choosing → ℕ → Bool
 fitting_with choosing a =
-    common_in choosing.question.now.config.now choosing.subnet.now a || same_address choosing.own a
+    common_in choosing.question.now.config.now choosing.question.now.names.now choosing.subnet.now a
+    || same_address choosing.own a
 
 -- an address is sought
 abbrev pub sought_at : Asking → Sought → ℕ → Bool
@@ -58,7 +61,7 @@ is_open q s new a = untaken q new a && fitting_for q s a
 
 -- an address has that rank, is in a pool, and is not reserved
 abbrev pub is_common_open : Asking → Subnet → Bool → ℕ → Bool
-is_common_open q s new a = untaken q new a && common_in q.config s a
+is_common_open q s new a = untaken q new a && common_in q.config q.names s a
 
 -- an address is the one reserved for the client, and open
 abbrev pub is_kept_open : Asking → Option ℕ → Bool → ℕ → Bool
@@ -74,6 +77,12 @@ IsLeast such first last (Some found) =
 -- the lowest address from first to last that is open, or none if none is
 abbrev pub IsLeastOpen : Asking → Subnet → Bool → ℕ → ℕ → Option ℕ → Type 0
 IsLeastOpen q s new first last found = IsLeast (is_open q s new) first last found
+
+-- the lowest open address that a pool has for the client, or none if it has none
+abbrev pub IsLeastGiven : Asking → Subnet → Bool → Pool → Option ℕ → Type 0
+IsLeastGiven q s new pool found =
+    IsLeast (λ a. pool_gives q.names pool a && is_open q s new a) pool.range.first pool.range.last
+    found
 
 -- an address is untaken and not reserved
 abbrev pub is_vacant : Asking → Bool → ℕ → Bool

@@ -15,7 +15,7 @@ abbrev pub message_place : ℕ → Header → ℕ
 message_place server h =
     if not (h.giaddr == 0) then h.giaddr else if not (h.ciaddr == 0) then h.ciaddr else server
 
--- the class that a subnet requires is held, or it requires none
+-- the class that a subnet or a pool requires is held, or it requires none
 abbrev pub class_admits : Option (List ℕ) → List (List ℕ) → Bool
 class_admits None names = true
 class_admits (Some class) names = is_held class names

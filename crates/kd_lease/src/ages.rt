@@ -1,5 +1,5 @@
 ghost use Rattle.std.specs.Prelude.{◌≡◌, ◌≤◌, ℕ, IsTrue, Some, false, true};
-ghost use Rattle.kd_lease.specs.Aging.{live_sought, newer_found, reserved_sought, sought_for, sought_in, sought_within, state_sought};
+ghost use Rattle.kd_lease.specs.Aging.{given_sought, live_sought, newer_found, reserved_sought, sought_for, sought_in, sought_within, state_sought};
 ghost use Rattle.kd_lease.specs.Choice.{live_row};
 ghost use Rattle.kd_lease.specs.Rules.{IsNewest, asking};
 ghost use Rattle.kd_lease.specs.Seeking.{sought_at};
@@ -10,6 +10,9 @@ use crate::candidates::Choosing;
 use crate::fit::is_holding;
 use crate::question::Question;
 use crate::search::{Sought, is_newer, is_offered, is_sought};
+use crate::subnet::admits;
+use kd_config::Pool;
+use kd_machine::Held;
 use kd_rows::{Row, Rows, State};
 
 // Returns the newest of the client's addresses that are sought, by searching its rows by age.
@@ -28,14 +31,15 @@ pub(crate) fn newest(question: &Question<'_>, sought: &Sought<'_>) -> Option<u32
     }
 }
 
-// Returns the newest of those that are reserved for the client in a subnet or are in a pool of it.
+// Returns the newest of those that are reserved for the client in a subnet or that a pool of it has
+// for the client.
 fn newest_in(question: &Question<'_>, sought: &Sought<'_>, choosing: &Choosing<'_>) -> Option<u32>
     ensures { IsNewest (asking question.now).rows
         (sought_for (asking question.now) sought.now choosing.now) result }
 {
     let mut best = newest_reserved(question, sought, choosing.own);
     for pool in choosing.subnet.pools.as_slice() {
-        let found = newest_within(question, sought, pool.range.first, pool.range.last);
+        let found = newest_given(question, sought, choosing.question.names, pool);
         best = newer(question.rows, best, found);
     }
     best
@@ -55,6 +59,23 @@ fn newest_reserved(question: &Question<'_>, sought: &Sought<'_>, own: Option<u32
             }
         }
         None => None,
+    }
+}
+
+// Returns the newest of those that a pool has for a client in the classes with these names.
+fn newest_given(
+    question: &Question<'_>,
+    sought: &Sought<'_>,
+    names: &Held,
+    pool: &Pool,
+) -> Option<u32>
+    ensures { IsNewest (asking question.now).rows
+        (given_sought (asking question.now) sought.now names.now pool.now) result }
+{
+    if admits(&pool.class, names) {
+        newest_within(question, sought, pool.range.first, pool.range.last)
+    } else {
+        None
     }
 }
 

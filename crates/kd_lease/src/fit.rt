@@ -1,24 +1,26 @@
 ghost use Rattle.std.specs.Prelude.{◌≡◌};
 ghost use Rattle.std.specs.Option.{option_copied};
 ghost use Rattle.kd_rows.specs.Table.{belongs_to};
-ghost use Rattle.kd_lease.specs.Choice.{address_of_value, fitting_for, pooled, same_address, free_for, held_row, holding_state, own_row, past_row, usable, freed_by, requested_address};
+ghost use Rattle.kd_lease.specs.Choice.{address_of_value, fitting_for, pool_gives, pooled, same_address, free_for, held_row, holding_state, own_row, past_row, usable, freed_by, requested_address};
 ghost use Rattle.kd_lease.specs.Rules.{asking};
 ghost use Rattle.kd_lease.specs.Seeking.{common_in, fitting_with};
 
 use crate::candidates::Choosing;
 use crate::question::Question;
 use crate::reservation::{is_reserved, reserved_address};
-use kd_config::{Config, Subnet};
+use crate::subnet::admits;
+use kd_config::{Pool, Subnet};
+use kd_machine::Held;
 use kd_options::Message;
 use kd_options::codes::OPTION_REQUESTED_ADDRESS;
 use kd_rows::{Row, State};
 
-/// Reports whether an address, in host order, fits: it is in a pool of the subnet and not reserved,
-/// or it is reserved for the client.
+/// Reports whether an address, in host order, fits: a pool of the subnet has it for the client and it
+/// is not reserved, or it is reserved for the client.
 pub fn fits(question: &Question<'_>, subnet: &Subnet, address: u32) -> bool
     ensures { result ≡ fitting_for (asking question.now) subnet.now address }
 {
-    is_common(question.config, subnet, address)
+    is_common(question, subnet, address)
         || is_address(reserved_address(question.message, subnet), address)
 }
 
@@ -26,26 +28,35 @@ pub fn fits(question: &Question<'_>, subnet: &Subnet, address: u32) -> bool
 pub(crate) fn fits_with(choosing: &Choosing<'_>, address: u32) -> bool
     ensures { result ≡ fitting_with choosing.now address }
 {
-    is_common(choosing.question.config, choosing.subnet, address)
+    is_common(choosing.question, choosing.subnet, address)
         || is_address(choosing.own, address)
 }
 
-// Reports whether an address is in a pool of the subnet and not reserved.
-pub(crate) fn is_common(config: &Config, subnet: &Subnet, address: u32) -> bool
-    ensures { result ≡ common_in config.now subnet.now address }
+// Reports whether a pool of the subnet has an address for the client, and it is not reserved.
+pub(crate) fn is_common(question: &Question<'_>, subnet: &Subnet, address: u32) -> bool
+    ensures { result
+        ≡ common_in question.now.config.now question.now.names.now subnet.now address }
 {
-    in_pools(subnet, address) && !is_reserved(config, address)
+    in_pools(question.names, subnet, address) && !is_reserved(question.config, address)
 }
 
-/// Reports whether an address, in host order, is in a pool of the subnet.
-pub fn in_pools(subnet: &Subnet, address: u32) -> bool
-    ensures { result ≡ pooled subnet.now address }
+/// Reports whether a pool of the subnet has an address, in host order, for a client in the classes
+/// with these names.
+pub fn in_pools(names: &Held, subnet: &Subnet, address: u32) -> bool
+    ensures { result ≡ pooled names.now subnet.now address }
 {
     subnet
         .pools
         .as_slice()
         .iter()
-        .any(|pool| pool.range.contains(address))
+        .any(|pool| gives_address(names, pool, address))
+}
+
+// Reports whether a pool has an address for a client in the classes with these names.
+fn gives_address(names: &Held, pool: &Pool, address: u32) -> bool
+    ensures { result ≡ pool_gives names.now pool.now address }
+{
+    admits(&pool.class, names) && pool.range.contains(address)
 }
 
 // Reports whether there is an address and it is this one.

@@ -1,4 +1,4 @@
-ghost use Rattle.std.specs.Prelude.{◌≡◌, ◌-◌, ◌≤◌, IfErr, IfOk, OnErr, OnOk, if◌then◌else◌, is_some, min, true, false};
+ghost use Rattle.std.specs.Prelude.{◌≡◌, ◌≢◌, ◌↔◌, ◌-◌, ◌≤◌, IfErr, IfOk, OnErr, OnOk, if◌then◌else◌, is_some, min, true, false};
 ghost use Rattle.std.specs.List.{All};
 ghost use Rattle.kd_rows.specs.Row.{IsInRange};
 ghost use Rattle.kd_rows.specs.Table.{Rise, latest_of, least_of, room_for_row, row_at, with_row};
@@ -73,19 +73,26 @@ impl Leases {
         Ground::knowing(&self.config, &self.table)
     }
 
-    /// Makes room for a row, so that setting it allocates no memory.
+    /// Whether setting a row would change the table. If so, makes room for it, so that setting it
+    /// allocates no memory.
     ///
     /// # Errors
     ///
-    /// Out of memory, and there was no room; the rows stay as they are.
-    pub fn reserve(&mut self, row: &Row) -> Result<(), AllocError>
+    /// The row would change the table, there was no room, and there is no memory for more; the rows
+    /// stay as they are.
+    pub fn prepare(&mut self, row: &Row) -> Result<bool, AllocError>
         ensures config { self.new.config ≡ self.old.config }
         ensures rows { self.new.table.rows ≡ self.old.table.rows }
         ensures least { self.new.table.least ≡ self.old.table.least }
-        ensures spare { OnOk result (room_for_row self.new.table row.now ≡ true) }
+        ensures same { IfOk result (λ changes. (changes ≡ false)
+            ↔ (with_row row.now self.old.table.rows ≡ self.old.table.rows)) }
+        ensures spare { IfOk result (λ changes. changes ≡ true
+            → room_for_row self.new.table row.now ≡ true) }
         ensures needed { OnErr result (room_for_row self.old.table row.now ≡ false) }
+        ensures changed { OnErr result
+            (with_row row.now self.old.table.rows ≢ self.old.table.rows) }
     {
-        self.table.reserve(row)
+        self.table.prepare(row)
     }
 
     /// Sets a row: replaces the row of its address, or inserts it where the address belongs.

@@ -2,13 +2,14 @@ ghost use Rattle.std.specs.Prelude.{◌≡◌};
 ghost use Rattle.kd_config.specs.Reservation.{earlier};
 ghost use Rattle.kd_lease.specs.Rules.{asking};
 ghost use Rattle.kd_lease.specs.Ranks.{IsRanked};
-ghost use Rattle.kd_lease.specs.Seeking.{IsLeast, IsLeastOpen, is_common_open, is_kept_open, pool_rank};
+ghost use Rattle.kd_lease.specs.Seeking.{IsLeast, IsLeastGiven, IsLeastOpen, is_common_open, is_kept_open, pool_rank};
 
 use crate::candidates::Choosing;
 use crate::fit::is_common;
 use crate::free::{is_untaken, next_untaken};
 use crate::question::Question;
-use kd_config::{Range, Subnet};
+use crate::subnet::admits;
+use kd_config::{Pool, Range, Subnet};
 
 // Returns the first address in pool order that fits and has no row (`new`), or whose row has ended
 // (otherwise).
@@ -17,12 +18,24 @@ pub(crate) fn pool_choice(choosing: &Choosing<'_>, new: bool) -> Option<u32>
         result }
 {
     for pool in choosing.subnet.pools.as_slice() {
-        match least_open(choosing, new, pool.range) {
+        match least_given(choosing, new, pool) {
             Some(address) => return Some(address),
             None => {}
         }
     }
     None
+}
+
+// Returns the lowest such address that a pool has for the client.
+fn least_given(choosing: &Choosing<'_>, new: bool, pool: &Pool) -> Option<u32>
+    ensures { IsLeastGiven (asking choosing.now.question.now) choosing.now.subnet.now new pool.now
+        result }
+{
+    if admits(&pool.class, choosing.question.names) {
+        least_open(choosing, new, pool.range)
+    } else {
+        None
+    }
 }
 
 // Returns the lowest such address of a range: reserved for the client, or open to all clients.
@@ -63,7 +76,7 @@ fn least_common(question: &Question<'_>, subnet: &Subnet, new: bool, range: Rang
         match next_untaken(question, new, from, range.last) {
             None => return None,
             Some(address) => {
-                if is_common(question.config, subnet, address) {
+                if is_common(question, subnet, address) {
                     return Some(address);
                 }
                 if address == range.last {

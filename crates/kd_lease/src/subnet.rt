@@ -7,7 +7,7 @@ ghost use Rattle.kd_lease.specs.SubnetOf.{class_admits, has_place, is_by_relay, 
 use kd_classes::OptionData;
 use kd_config::{Config, Pool, Subnet};
 use kd_machine::Held;
-use kd_wire::Header;
+use kd_wire::{Bytes, Header};
 
 /// Returns the first subnet that serves a message with this header and with classes of these names:
 /// the message's relay is one of its own, or else, if no subnet has that, its prefix contains the
@@ -61,7 +61,7 @@ pub fn place_of(server: u32, header: &Header) -> u32
 pub fn serves(by_relay: bool, place: u32, names: &Held, subnet: &Subnet) -> bool
     ensures { result ≡ served_by by_relay place names.now subnet.now }
 {
-    is_at(by_relay, place, subnet) && admits(subnet, names)
+    is_at(by_relay, place, subnet) && admits(&subnet.class, names)
 }
 
 /// Reports whether the subnet has a place, an address in host order: as a relay of its own, or else
@@ -83,11 +83,11 @@ fn names_relay(address: u32, relays: &[u32]) -> bool
     relays.iter().any(|relay| *relay == address)
 }
 
-// Reports whether the class that the subnet requires is held; true if it requires none.
-fn admits(subnet: &Subnet, names: &Held) -> bool
-    ensures { result ≡ class_admits subnet.now.class names.now }
+// Reports whether the class that a subnet or a pool requires is held; true if it requires none.
+pub(crate) fn admits(class: &Option<Bytes>, names: &Held) -> bool
+    ensures { result ≡ class_admits class.now names.now }
 {
-    match &subnet.class {
+    match class {
         Some(class) => names.contains(class.as_slice()),
         None => true,
     }

@@ -5,10 +5,10 @@ use Rattle.kd_lease.specs.Choice.{Asking, Choice, client_reservation, has_such, 
 use Rattle.kd_rows.specs.Table.{belongs_to, row_at}
 use Rattle.kd_pools.specs.Counts.{free_at}
 
--- a new client asks for an address of a pool: it has no row, has no reservation in the subnet, and
--- asks for this address
+-- a new client asks for an address that a pool has for it: it has no row, has no reservation in the
+-- subnet, and asks for this address
 pub record IsNewAsking (q : Asking) (s : Subnet) (a : ℕ) : Type 0 where
-  pub pooled : pooled s a ≡ true
+  pub pooled : pooled q.names s a ≡ true
   pub no_row : (b : ℕ) → has_such (belongs_to q.client) (row_at q.rows b) ≡ false
   pub no_reservation : client_reservation q.message s ≡ None
   pub asked : requested_address q.message ≡ Some a

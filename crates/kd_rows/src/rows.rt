@@ -1,4 +1,4 @@
-ghost use Rattle.std.specs.Prelude.{◌≡◌, ◌+◌, ◌-◌, ◌≤◌, ◌<◌, ◌^◌, ◌↔◌, length, IfOk, IsTrue, OnErr, OnOk, false, is_some, if◌then◌else◌, min, true, slice_get};
+ghost use Rattle.std.specs.Prelude.{◌≡◌, ◌+◌, ◌-◌, ◌≤◌, ◌<◌, ◌^◌, ◌↔◌, ◌≢◌, length, IfOk, IsTrue, OnErr, OnOk, false, is_some, if◌then◌else◌, min, true, slice_get};
 ghost use Rattle.std.specs.List.{All};
 ghost use Rattle.std.specs.Option.{option_copied};
 ghost use Rattle.kd_rows.specs.Row.{IsInRange};
@@ -269,12 +269,33 @@ impl Rows {
         find(&self.rows, row.address).is_some() || self.room > 0
     }
 
-    /// Makes room so that a row can be set without taking memory.
+    /// Whether setting a row would change the table. If so, makes room so that it can be set without
+    /// taking memory.
     ///
     /// # Errors
     ///
-    /// There was no room, and there is no memory for more; the rows stay as they are.
-    pub fn reserve(&mut self, row: &Row) -> Result<(), AllocError>
+    /// The row would change the table, there was no room, and there is no memory for more; the rows
+    /// stay as they are.
+    pub fn prepare(&mut self, row: &Row) -> Result<bool, AllocError>
+        ensures rows { self.new.rows ≡ self.old.rows }
+        ensures least { self.new.least ≡ self.old.least }
+        ensures same { IfOk result (λ changes. (changes ≡ false)
+            ↔ (with_row row.now self.old.rows ≡ self.old.rows)) }
+        ensures spare { IfOk result (λ changes. changes ≡ true
+            → room_for_row self.new row.now ≡ true) }
+        ensures needed { OnErr result (room_for_row self.old row.now ≡ false) }
+        ensures changed { OnErr result (with_row row.now self.old.rows ≢ self.old.rows) }
+    {
+        if self.has(row) {
+            return Ok(false);
+        }
+        self.reserve(row)?;
+        Ok(true)
+    }
+
+    // Makes room so that a row can be set without taking memory. An error says that there was no
+    // room, and that there is no memory for more.
+    pub(crate) fn reserve(&mut self, row: &Row) -> Result<(), AllocError>
         ensures rows { self.new.rows ≡ self.old.rows }
         ensures least { self.new.least ≡ self.old.least }
         ensures spare { OnOk result (room_for_row self.new row.now ≡ true) }

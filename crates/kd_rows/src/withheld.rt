@@ -1,4 +1,4 @@
-ghost use Rattle.std.specs.Prelude.{◌≡◌, ◌-◌, ◌≤◌, ℕ, IfOk, OnErr, OnOk, false, if◌then◌else◌, is_some, min, true};
+ghost use Rattle.std.specs.Prelude.{◌≡◌, ◌≢◌, ◌↔◌, ◌-◌, ◌≤◌, ℕ, IfOk, OnErr, OnOk, false, if◌then◌else◌, is_some, min, true};
 ghost use Rattle.std.specs.Option.{option_copied};
 ghost use Rattle.kd_rows.specs.Row.{IsInRange};
 ghost use Rattle.kd_rows.specs.Table.{latest_of, room_for_row, row_at, with_row};
@@ -115,12 +115,35 @@ impl Withheld {
         self.rows.get(row.address).is_some() || self.room > 0
     }
 
-    /// Makes room so that a row can be set without taking memory.
+    /// Whether setting a row would change the table. If so, makes room so that it can be set without
+    /// taking memory.
     ///
     /// # Errors
     ///
-    /// There was no room, and there is no memory for more; the rows stay as they are.
-    pub fn reserve(&mut self, row: &Row) -> Result<(), AllocError>
+    /// The row would change the table, there was no room, and there is no memory for more; the rows
+    /// stay as they are.
+    pub fn prepare(&mut self, row: &Row) -> Result<bool, AllocError>
+        ensures rows { self.new.table.rows ≡ self.old.table.rows }
+        ensures least { self.new.table.least ≡ self.old.table.least }
+        ensures withheld { self.new.withheld ≡ self.old.withheld }
+        ensures same { IfOk result (λ changes. (changes ≡ false)
+            ↔ (with_row row.now self.old.table.rows ≡ self.old.table.rows)) }
+        ensures spare { IfOk result (λ changes. changes ≡ true
+            → room_for_row self.new.table row.now ≡ true) }
+        ensures needed { OnErr result (room_for_row self.old.table row.now ≡ false) }
+        ensures changed { OnErr result
+            (with_row row.now self.old.table.rows ≢ self.old.table.rows) }
+    {
+        if self.rows.has(row) {
+            return Ok(false);
+        }
+        self.reserve(row)?;
+        Ok(true)
+    }
+
+    // Makes room so that a row can be set without taking memory. An error says that there was no
+    // room, and that there is no memory for more.
+    fn reserve(&mut self, row: &Row) -> Result<(), AllocError>
         ensures rows { self.new.table.rows ≡ self.old.table.rows }
         ensures least { self.new.table.least ≡ self.old.table.least }
         ensures withheld { self.new.withheld ≡ self.old.withheld }

@@ -127,12 +127,10 @@ fn stage_row(
         (IsUnset leases.old.table.rows leases.new.table.rows (with_row row leases.old.table.rows)) }
     ensures set { Stages leases.old.table.rows set.old.items leases.new.table.rows set.new.items }
 {
-    if leases.rows().has(&row) {
-        return Ok(());
+    if leases.prepare(&row)? {
+        list_row(alloc, set, &row)?;
+        leases.set(row);
     }
-    leases.reserve(&row)?;
-    list_row(alloc, set, &row)?;
-    leases.set(row);
     Ok(())
 }
 

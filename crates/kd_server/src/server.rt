@@ -326,10 +326,9 @@ fn keep_row<S: Keeps>(leases: &mut Leases, store: &mut S, row: Row) -> Result<()
         (IsUnkept S.Keeps leases.old.table.rows leases.new.table.rows store.old store.new
         (with_row row leases.old.table.rows)) }
 {
-    if leases.rows().has(&row) {
+    if !leases.prepare(&row)? {
         return Ok(());
     }
-    leases.reserve(&row)?;
     match store.put(&row) {
         Ok(()) => {
             leases.set(row);

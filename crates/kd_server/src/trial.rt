@@ -127,11 +127,9 @@ fn put_row(rows: &mut Rows, row: Row) -> Result<(), ServeFault>
     ensures unset { IfErr result
         (IsUnset rows.old.rows rows.new.rows (with_row row rows.old.rows)) }
 {
-    if rows.has(&row) {
-        return Ok(());
+    if rows.prepare(&row)? {
+        rows.set(row);
     }
-    rows.reserve(&row)?;
-    rows.set(row);
     Ok(())
 }
 

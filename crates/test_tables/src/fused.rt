@@ -118,10 +118,12 @@ fn set_copy(alloc: Global, table: &mut Rows, row: &Row) -> Result<(), StoreFault
     if copy.changed < table.latest() {
         return Err(StoreFault::Schema);
     }
-    if table.reserve(&copy).is_err() {
+    let Ok(changes) = table.prepare(&copy) else {
         return Err(StoreFault::Sql(Cause::OutOfMemory));
+    };
+    if changes {
+        table.set(copy);
     }
-    table.set(copy);
     Ok(())
 }
 

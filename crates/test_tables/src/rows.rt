@@ -100,8 +100,9 @@ pub(crate) fn set_row(rows: &mut Rows, row: Row) -> Result<(), Fault> {
     if !row.is_in_range() || row.changed < rows.latest() {
         return Err(Fault::Rows);
     }
-    rows.reserve(&row)?;
-    rows.set(row);
+    if rows.prepare(&row)? {
+        rows.set(row);
+    }
     Ok(())
 }
 

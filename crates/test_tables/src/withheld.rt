@@ -180,8 +180,9 @@ fn set(alloc: Global, table: &mut Withheld, lease: Lease) -> Result<(), Fault> {
     if !row.is_in_range() || row.changed < table.rows().latest() {
         return Err(Fault::Rows);
     }
-    table.reserve(&row)?;
-    table.set(row);
+    if table.prepare(&row)? {
+        table.set(row);
+    }
     Ok(())
 }
 

@@ -13,7 +13,8 @@ pub fn set_row(rows: &mut Rows, row: Row) -> Result<(), AllocError>
     ensures kept { OnErr result (rows.new.rows ≡ rows.old.rows) }
 {
     laws::get_of_set();
-    rows.reserve(&row)?;
-    rows.set(row);
+    if rows.prepare(&row)? {
+        rows.set(row);
+    }
     Ok(())
 }

@@ -30,7 +30,11 @@ impl EntryReader for PoolReader {
             return Err(bad_value(alloc, at, "pool"));
         };
         let options = options_of(alloc, value, at)?;
-        Ok(Pool { range, options })
+        Ok(Pool {
+            range,
+            class: None,
+            options,
+        })
     }
 }
 

@@ -277,6 +277,7 @@ impl<'a> NotedObject for PoolObject<'a> {
         let mut inner = NoteList::new(notes.allocator());
         note_keys(&mut inner, pool, path, ObjectKind::Pool)?;
         note_failed(&mut inner, has_range(pool), path, "pool", NoteKind::Wrong)?;
+        note_text(&mut inner, pool, path, "client-class")?;
         note_part_options(&mut inner, pool, path, self.known)?;
         append_checked(notes, inner, &PoolReader { known: self.known }, pool, path)
     }

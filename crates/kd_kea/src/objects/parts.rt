@@ -68,6 +68,7 @@ fn part_of(alloc: Global, pool: &Pool, i: u32) -> Result<Pool, AllocError>
 {
     Ok(Pool {
         range: nth_part(pool.range, i),
+        class: class_copied(alloc, &pool.class)?,
         options: copied(alloc, pool.options.as_slice())?,
     })
 }
@@ -92,6 +93,19 @@ fn beginning(first: u32, last: u32) -> Range
             first,
             last: first + 65_535,
         }
+    }
+}
+
+// Copies the name of a class, if there is one.
+fn class_copied(alloc: Global, class: &Option<Bytes>) -> Result<Option<Bytes>, AllocError>
+    ensures { IfOk result (λ copy. copy ≡ class.now) }
+{
+    match class {
+        Some(name) => {
+            let name = Vec::from_slice(alloc, name.as_slice())?;
+            Ok(Some(Bytes::own(name)))
+        }
+        None => Ok(None),
     }
 }
 

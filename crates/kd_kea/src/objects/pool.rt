@@ -5,6 +5,7 @@ ghost use Rattle.kd_kea.specs.Pool.{kea_pool, kea_range};
 
 use crate::checking::check_keys;
 use crate::objects::definition::Definition;
+use crate::objects::flags::non_empty;
 use crate::objects::options::options_of;
 use crate::objects::scope::part_scope;
 use crate::tables::ObjectKind;
@@ -12,6 +13,7 @@ use kd_config::{Pool, Range};
 use kd_json::objects::faults::SettingsFault;
 use kd_json::objects::lists::EntryReader;
 use kd_json::objects::pool::addresses_in;
+use kd_json::objects::values::text_or_none;
 use kd_json::rules::place::{Place, bad_value, missing};
 use serde_json::Value;
 use std::alloc::Global;
@@ -40,8 +42,13 @@ impl<'a> EntryReader for PoolReader<'a> {
         let Some(range) = range_in(text) else {
             return Err(bad_value(alloc, at, "pool"));
         };
+        let class = text_or_none(alloc, value, at, "client-class")?;
         let options = options_of(alloc, value, at, part_scope(self.known))?;
-        Ok(Pool { range, options })
+        Ok(Pool {
+            range,
+            class: non_empty(class),
+            options,
+        })
     }
 }
 

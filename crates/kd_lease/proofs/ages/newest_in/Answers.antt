@@ -15,7 +15,7 @@ loop-pool-preserved c =
     let pools = c.args.choosing.now.subnet.now.pools in
     let less : n < length pools = omega (arith, c.loop-pool-test.true, ap length c.as_slice-pool-items.ensures) in
     let is : pool ≡ get_or pools n pool = c.pool-item.is ∙ ap (λ (xs : List Pool). get_or xs n pool) c.as_slice-pool-items.ensures in
-    rw c.newer-best.ensures (pool_more q c.args.sought.now c.args.choosing.now n pool c.loop-pool.best c.newest_within-found.result less is c.loop-pool.invariant c.newest_within-found.ensures)
+    rw c.newer-best.ensures (pool_more q c.args.sought.now c.args.choosing.now n pool c.loop-pool.best c.newest_given-found.result less is c.loop-pool.invariant c.newest_given-found.ensures)
 
 pub returns : goal.returns
 returns c = all_pools (asking c.args.question.now) c.args.sought.now c.args.choosing.now c.loop-pool.pool-index c.loop-pool.best (omega (arith, c.loop-pool-test.false, ap length c.as_slice-pool-items.ensures)) c.loop-pool.invariant

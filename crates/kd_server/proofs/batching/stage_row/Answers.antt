@@ -7,5 +7,5 @@ use Rattle.kd_server.proofs.batching.stage_row.Goals as goal
 pub returns-clause-set : goal.returns-clause-set
 returns-clause-set c =
     staged c.args.leases.now.table.rows c.args.set.now.items c.set.new.self.table.rows c.list_row.new.set.items c.args.row c.args.row
-    refl (c.set.ensures.rows ∙ ap (with_row c.args.row) c.reserve.ensures.rows) c.in_ok-list_row.ensures.listed c.requires.in_range
-    (λ same. true≢false (sym (c.has.ensures.1 (subst (λ (l : List Row). with_row c.args.row l ≡ l) (sym c.rows.ensures.rows) same)) ∙ c.if-has.false))
+    refl (c.set.ensures.rows ∙ ap (with_row c.args.row) c.prepare.ensures.rows) c.in_ok-list_row.ensures.listed c.requires.in_range
+    (λ same. true≢false (sym c.if-in_ok-prepare.true ∙ c.in_ok-prepare.ensures.same.1 same))
