@@ -89,13 +89,27 @@ abbrev pub subnet_note : List ℕ → Prefix → Option (List ℕ) → List ℕ
 subnet_note name prefix None = []
 subnet_note name prefix (Some words) = subnet_text name prefix words
 
--- ---- the addresses of a subnet's pools
+-- ---- the pools of a subnet
+
+-- the beginning of a line about a pool
+abbrev pub pool_name : List ℕ → Pool → List ℕ
+pool_name name pool =
+    name ++ codes ": pool " ++ address_text pool.range.first ++ codes " - "
+    ++ address_text pool.range.last
+
+-- the line about the class that a pool requires
+unfoldable pub pool_class_text : List ℕ → Pool → List ℕ → List ℕ
+pool_class_text name pool words = pool_name name pool ++ words
+
+-- the line, if something is wrong
+abbrev pub pool_class_note : List ℕ → Pool → Option (List ℕ) → List ℕ
+pool_class_note name pool None = []
+pool_class_note name pool (Some words) = pool_class_text name pool words
 
 -- the line about an address in a pool
 unfoldable pub pool_text : List ℕ → Pool → ℕ → List ℕ → List ℕ
 pool_text name pool a words =
-    name ++ codes ": pool " ++ address_text pool.range.first ++ codes " - "
-    ++ address_text pool.range.last ++ codes ": " ++ address_text a ++ codes " is " ++ words
+    pool_name name pool ++ codes ": " ++ address_text a ++ codes " is " ++ words
     ++ codes "\n"
 
 -- the line, if the pool contains the address
@@ -113,11 +127,12 @@ network_lines name prefix pool =
     else pool_note name pool prefix.address (codes "the address of the network")
     ++ pool_note name pool (last_of prefix) (codes "the broadcast address")
 
--- the lines about the addresses of a pool that no client should have
-abbrev pub pool_advice : List ℕ → ℕ → Prefix → Pool → List ℕ
-pool_advice name server prefix pool =
-    network_lines name prefix pool
-    ++ pool_note name pool server (codes "the address of the server")
+-- the lines about a pool: its class, and the addresses of it that no client should have
+abbrev pub pool_advice : List ℕ → Configuration → Prefix → Pool → List ℕ
+pool_advice name config prefix pool =
+    pool_class_note name pool (required_trouble config.classes pool.class)
+    ++ network_lines name prefix pool
+    ++ pool_note name pool config.server (codes "the address of the server")
 
 -- ---- together
 
@@ -125,7 +140,7 @@ pool_advice name server prefix pool =
 abbrev pub subnet_advice : List ℕ → Configuration → Subnet → List ℕ
 subnet_advice name config s =
     subnet_note name s.prefix (required_trouble config.classes s.class)
-    ++ flat_map (pool_advice name config.server s.prefix) s.pools
+    ++ flat_map (pool_advice name config s.prefix) s.pools
 
 -- the lines about a configuration with this name
 abbrev pub advice_lines : List ℕ → Configuration → Bool → List ℕ

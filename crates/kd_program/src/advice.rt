@@ -1,7 +1,7 @@
 ghost use Rattle.std.specs.Prelude.{◌≡◌, ◌++◌, ◌||◌, Bool, OnOk, Result, is_some, option_copied, option_map, string_bytes};
 ghost use Rattle.std.specs.List.{flat_map, list_any};
 ghost use Rattle.kd_trouble.specs.declared.troubles.SocketTrouble.{SocketTrouble};
-ghost use Rattle.kd_program.specs.Advice.{IsFoundMissing, advice_lines, asks_relay, class_trouble, def_asks, defined, is_absent, last_of, network_lines, pool_advice, pool_note};
+ghost use Rattle.kd_program.specs.Advice.{IsFoundMissing, advice_lines, asks_relay, class_trouble, def_asks, defined, is_absent, last_of, network_lines, pool_advice, pool_class_note, pool_class_text, pool_name, pool_note};
 ghost use Rattle.kd_program.specs.Advice.{pool_text, required_trouble, server_advice, server_text, subnet_advice, subnet_note, subnet_text, test_asks};
 
 use crate::host::Host;
@@ -124,7 +124,7 @@ fn put_subnet(
         ≡ string_bytes text.old ++ subnet_advice name.now config.now subnet.now) }
 {
     put_class(text, name, config.classes(), subnet)?;
-    put_pools(text, name, config.server(), subnet)?;
+    put_pools(text, name, config, subnet)?;
     Ok(())
 }
 
@@ -239,31 +239,81 @@ fn is_relay_token(token: &Token) -> bool
     }
 }
 
-// Prints a line for each address of a subnet's pools that no client should have.
-fn put_pools(text: &mut String, name: &str, server: u32, subnet: &Subnet) -> Result<(), AllocError>
+// Prints the lines about a subnet's pools.
+fn put_pools(
+    text: &mut String,
+    name: &str,
+    config: &Config,
+    subnet: &Subnet,
+) -> Result<(), AllocError>
     ensures { OnOk result (string_bytes text.new ≡ string_bytes text.old
-        ++ flat_map (pool_advice name.now server subnet.now.prefix) subnet.now.pools) }
+        ++ flat_map (pool_advice name.now config.now subnet.now.prefix) subnet.now.pools) }
 {
     for pool in subnet.pools.as_slice() {
-        put_pool(text, name, server, subnet.prefix, pool)?;
+        put_pool(text, name, config, subnet.prefix, pool)?;
     }
     Ok(())
 }
 
-// Prints a line for each address of a pool that no client should have.
+// Prints the lines about a pool: its class, and the addresses of it that no client should have.
 fn put_pool(
     text: &mut String,
     name: &str,
-    server: u32,
+    config: &Config,
     prefix: Prefix,
     pool: &Pool,
 ) -> Result<(), AllocError>
     ensures { OnOk result (string_bytes text.new
-        ≡ string_bytes text.old ++ pool_advice name.now server prefix pool.now) }
+        ≡ string_bytes text.old ++ pool_advice name.now config.now prefix pool.now) }
 {
+    put_pool_class(text, name, config.classes(), pool)?;
     put_network(text, name, prefix, pool)?;
-    put_address_of(text, name, pool, server, "the address of the server")?;
+    put_address_of(text, name, pool, config.server(), "the address of the server")?;
     Ok(())
+}
+
+// Prints a line if nobody can be in the class that a pool requires, or if its clients leave it as
+// they renew.
+fn put_pool_class(
+    text: &mut String,
+    name: &str,
+    classes: &Classes,
+    pool: &Pool,
+) -> Result<(), AllocError>
+    ensures { OnOk result (string_bytes text.new ≡ string_bytes text.old
+        ++ pool_class_note name.now pool.now (required_trouble classes.now pool.now.class)) }
+{
+    match trouble_of(classes, &pool.class) {
+        Some(words) => put_pool_class_line(text, name, pool, words),
+        None => Ok(()),
+    }
+}
+
+// Prints `NAME: pool FIRST - LAST` and the words.
+#[tactic(auto, unfolding(crate::specs::Advice::pool_class_text))]
+fn put_pool_class_line(
+    text: &mut String,
+    name: &str,
+    pool: &Pool,
+    words: &str,
+) -> Result<(), AllocError>
+    ensures { OnOk result (string_bytes text.new
+        ≡ string_bytes text.old ++ pool_class_text name.now pool.now words.now) }
+{
+    put_pool_name(text, name, pool)?;
+    text.push_str(words)
+}
+
+// Prints `NAME: pool FIRST - LAST`.
+fn put_pool_name(text: &mut String, name: &str, pool: &Pool) -> Result<(), AllocError>
+    ensures { OnOk result (string_bytes text.new
+        ≡ string_bytes text.old ++ pool_name name.now pool.now) }
+{
+    text.push_str(name)?;
+    text.push_str(": pool ")?;
+    put_address(text, pool.range.first)?;
+    text.push_str(" - ")?;
+    put_address(text, pool.range.last)
 }
 
 // Prints the lines about the first and the last address of a prefix, which no host has, unless it
@@ -329,11 +379,7 @@ fn put_pool_line(
     ensures { OnOk result (string_bytes text.new
         ≡ string_bytes text.old ++ pool_text name.now pool.now address words.now) }
 {
-    text.push_str(name)?;
-    text.push_str(": pool ")?;
-    put_address(text, pool.range.first)?;
-    text.push_str(" - ")?;
-    put_address(text, pool.range.last)?;
+    put_pool_name(text, name, pool)?;
     text.push_str(": ")?;
     put_address(text, address)?;
     text.push_str(" is ")?;

@@ -5,4 +5,4 @@ use Rattle.kd_program.specs.Advice.{pool_advice}
 use Rattle.kd_program.proofs.advice.put_pools.Given as goal
 
 abbrev pub invariant-loop-pool : goal.invariant-loop-pool
-invariant-loop-pool l = string_bytes l.text ≡ string_bytes l.initial.text ++ flat_map (pool_advice l.name l.server l.subnet.prefix) (take l.pool-index l.subnet.pools)
+invariant-loop-pool l = string_bytes l.text ≡ string_bytes l.initial.text ++ flat_map (pool_advice l.name l.config l.subnet.prefix) (take l.pool-index l.subnet.pools)
