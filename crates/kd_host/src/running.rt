@@ -27,11 +27,13 @@ pub fn run_on<'a, F: Start, R: Source, O: Sink, E: Sink>(
 ) -> u8
     requires input { R.has_failed ends.old.input ≡ false }
     requires output { O.has_failed ends.old.output ≡ false }
-    ensures carried { Carries ⟦<Machine<'a, HostRuntime, F, Below<F>> as Host>⟧ ⟦<Store<Below<F>> as Keeps>⟧
-        ⟦<Volatile as Keeps>⟧ ⟦<Socket<'a> as Link>⟧ ⟦<Output<File> as Sink>⟧ (map string_bytes words.now)
+    ensures carried { Carries ⟦<Machine<'a, HostRuntime, F, Below<F>> as Host>⟧
+        ⟦<Store<Below<F>> as Keeps>⟧ ⟦<Volatile as Keeps>⟧ ⟦<Socket<'a> as Link>⟧
+        ⟦<Output<File> as Sink>⟧ (map string_bytes words.now)
         (at_ends R.Source O.Sink E.Sink machine.old ends.old)
         (at_ends R.Source O.Sink E.Sink machine.new ends.new) result }
-    ensures on_files { RunsOnFiles ⟦<FileFrom<F> as Disk>⟧ ⟦<Machine<'a, HostRuntime, F, Below<F>> as Host>⟧
+    ensures on_files { RunsOnFiles ⟦<FileFrom<F> as Disk>⟧
+        ⟦<Machine<'a, HostRuntime, F, Below<F>> as Host>⟧
         ⟦<Store<Below<F>> as Keeps>⟧ ⟦<Socket<'a> as Link>⟧ ⟦<Output<File> as Sink>⟧ (image_at F.Start)
         (map string_bytes words.now) (streams R.Source O.Sink E.Sink ends.old)
         (record {
