@@ -22,7 +22,8 @@ pub enum Check {
     Client,
     /// The row of the address is the client's.
     Owner,
-    /// The address fits: it is in a pool of the subnet and not reserved, or reserved for the client.
+    /// The address fits: a pool of the subnet has it for the client and it is not reserved, or it is
+    /// reserved for the client.
     Fits,
     /// The address is free for the client.
     Free,
