@@ -7,7 +7,6 @@ use Rattle.std.proofs.lemmas.Bool.Decides.{nat_tests}
 use Rattle.std.proofs.lemmas.List.{take_all}
 use Rattle.std.proofs.lemmas.List.Folds.{list_any_more}
 use Rattle.std.proofs.lemmas.Option.{none-some, same_Some}
-use Rattle.kd_config.specs.Apart.{has}
 use Rattle.kd_config.specs.declared.pool.Pool.{Pool}
 use Rattle.kd_config.specs.declared.subnet.Subnet.{Subnet}
 use Rattle.kd_rows.specs.Row.{state_number}
@@ -22,7 +21,6 @@ use Rattle.kd_lease.specs.Choice.Rank.{own, past}
 use Rattle.kd_lease.specs.Ranks.{IsRanked}
 use Rattle.kd_lease.specs.Rules.{IsNewest, asking, held_at, offered_state}
 use Rattle.kd_lease.specs.Seeking.{fitting_with, past_at, sought_at}
-use Rattle.kd_lease.specs.SubnetOf.{class_admits}
 use Rattle.kd_lease.specs.declared.candidates.Choosing.{Choosing}
 use Rattle.kd_lease.specs.declared.search.Sought.{Sought}
 use Rattle.kd_lease.specs.declared.search.Sought.TheVariants as seeks
@@ -438,14 +436,3 @@ reached_row q sought state first last found row is = subst (λ (o : Option (Bor 
 
 pub reached_no_row : (q : Asking) (sought : Sought) (state : State) (first last : ℕ) (found : Option (Bor Row)) → found ≡ None → IsReached q sought state first last (option_copied found) → IsReached q sought state first last None
 reached_no_row q sought state first last found is = subst (λ (o : Option (Bor Row)). IsReached q sought state first last (option_copied o)) is
-
--- where the class of a pool is held, those within its addresses are what it has for the client
-pub given_within : (q : Asking) (sought : Sought) (names : List (List ℕ)) (pool : Pool) (best : Option ℕ) → class_admits pool.class names ≡ true → IsNewest q.rows (sought_within q sought pool.range.first pool.range.last) best → IsNewest q.rows (given_sought q sought names pool) best
-given_within q sought names pool best held = newest_alike q.rows (sought_within q sought pool.range.first pool.range.last) (given_sought q sought names pool) best (λ a. ap (λ (t : Bool). sought_at q sought a && (t && is_within pool.range.first pool.range.last a)) held)
-
--- where it is not, the pool has none of them
-pub given_none : (q : Asking) (sought : Sought) (names : List (List ℕ)) (pool : Pool) → class_admits pool.class names ≡ false → IsNewest q.rows (given_sought q sought names pool) None
-given_none q sought names pool other a = ap (λ (t : Bool). sought_at q sought a && (t && has pool.range a)) other ∙ no_and_after (sought_at q sought a) where
-  no_and_after : (t : Bool) → (t && false) ≡ false
-  no_and_after true = refl
-  no_and_after false = refl

@@ -60,13 +60,13 @@ passed q s new first from end before none a low less = ⊎_elim (λ l. before a 
 pub none_from : (q : Asking) (s : Subnet) (new : Bool) (first last from : ℕ) → NoneUpTo (is_common_open q s new) first from → IsNextUntaken q new from last None → IsLeast (is_common_open q s new) first last None
 none_from q s new first last from before none a low high = ⊎_elim (λ l. before a low l) (λ l. vacant q s new a (none a l high)) (cases_lt a from)
 
-pub found_next : (q : Asking) (s : Subnet) (new : Bool) (first last from found : ℕ) → first ≤ from → NoneUpTo (is_common_open q s new) first from → IsNextUntaken q new from last (Some found) → common_in q.config s found ≡ true → IsLeast (is_common_open q s new) first last (Some found)
+pub found_next : (q : Asking) (s : Subnet) (new : Bool) (first last from found : ℕ) → first ≤ from → NoneUpTo (is_common_open q s new) first from → IsNextUntaken q new from last (Some found) → common_in q.config q.names s found ≡ true → IsLeast (is_common_open q s new) first last (Some found)
 found_next q s new first last from found above before next common =
     let low : first ≤ found = omega (arith, next.0) in
     let here : is_common_open q s new found ≡ true = rw (next.2, common) refl in
     (low, next.1, here, passed q s new first from found before next.3)
 
-pub none_next : (q : Asking) (s : Subnet) (new : Bool) (first last from found : ℕ) → NoneUpTo (is_common_open q s new) first from → IsNextUntaken q new from last (Some found) → common_in q.config s found ≡ false → NoneUpTo (is_common_open q s new) first (found + 1)
+pub none_next : (q : Asking) (s : Subnet) (new : Bool) (first last from found : ℕ) → NoneUpTo (is_common_open q s new) first from → IsNextUntaken q new from last (Some found) → common_in q.config q.names s found ≡ false → NoneUpTo (is_common_open q s new) first (found + 1)
 none_next q s new first last from found before next other a low less = ⊎_elim
     (λ e. subst (λ (n : ℕ). is_common_open q s new n ≡ false) (sym e) here)
     (λ n. passed q s new first from found before next.3 a low (omega arith))
