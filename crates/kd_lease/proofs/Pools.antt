@@ -1,5 +1,5 @@
 -- The first open address in pool order: ranges are searched one after another.
-use Rattle.std.proofs.Common.{◌≡◌, ℕ, zero, suc, ◌+◌, ◌<◌, ◌≤◌, Bool, true, false, ◌&&◌, ◌||◌, ◌==◌, nat_lt, List, [], ◌∷◌, length, get_or, Option, Some, None, refl, sym, ◌∙◌, subst, arith, ⊎_elim, if◌then◌else◌}
+use Rattle.std.proofs.Common.{◌≡◌, ℕ, zero, suc, ◌+◌, ◌<◌, ◌≤◌, Bool, true, false, ◌&&◌, ◌||◌, ◌==◌, nat_lt, List, [], ◌∷◌, length, get_or, Some, None, refl, sym, ◌∙◌, subst, arith, ⊎_elim, if◌then◌else◌}
 use Rattle.std.specs.List.{list_any}
 use Rattle.std.proofs.lemmas.Bool.{cases_lt, false≢true}
 use Rattle.std.proofs.lemmas.Bool.Decides.{nat_tests}
@@ -8,7 +8,7 @@ use Rattle.kd_config.specs.declared.pool.Pool.{Pool}
 use Rattle.kd_config.specs.declared.subnet.Subnet.{Subnet}
 use Rattle.kd_lease.specs.Choice.{Asking, IsFirstOf, has_rank, pooled, is_before, is_earlier, pool_gives, pool_place}
 use Rattle.kd_lease.specs.Ranks.{IsRanked}
-use Rattle.kd_lease.specs.Seeking.{IsLeast, IsLeastGiven, IsLeastOpen, is_open, pool_rank}
+use Rattle.kd_lease.specs.Seeking.{IsLeastGiven, is_open, pool_rank}
 use Rattle.kd_lease.specs.SubnetOf.{class_admits}
 
 left : (t u : Bool) → (t && u) ≡ true → t ≡ true
@@ -125,27 +125,3 @@ no_open q s new n all h b = ranked q s new b ∙ by (pooled q.names s b) refl wh
   by : (t : Bool) → pooled q.names s b ≡ t → (t && is_open q s new b) ≡ false
   by true e = h b (let l : pool_place q.names s.pools b < length s.pools = pool_within q.names s.pools b e in omega arith)
   by false e = refl
-
--- in a pool whose class is held, what is open is what the pool has for the client
-pub given_where_held : (q : Asking) (s : Subnet) (new : Bool) (pool : Pool) (found : Option ℕ) → class_admits pool.class q.names ≡ true → IsLeastOpen q s new pool.range.first pool.range.last found → IsLeastGiven q s new pool found
-given_where_held q s new pool found held = by found where
-  has_it : (a : ℕ) → pool.range.first ≤ a → a ≤ pool.range.last → has pool.range a ≡ true
-  has_it a low high = grind (arith, nat_tests)
-
-  gives_it : (a : ℕ) → pool.range.first ≤ a → a ≤ pool.range.last → pool_gives q.names pool a ≡ true
-  gives_it a low high = both (class_admits pool.class q.names) (has pool.range a) held (has_it a low high)
-
-  no_more : (t u : Bool) → u ≡ false → (t && u) ≡ false
-  no_more true u h = h
-  no_more false u h = refl
-
-  by : (found : Option ℕ) → IsLeastOpen q s new pool.range.first pool.range.last found → IsLeastGiven q s new pool found
-  by None none = λ a low high. no_more (pool_gives q.names pool a) (is_open q s new a) (none a low high)
-  by (Some found) least = (least.0, least.1, both (pool_gives q.names pool found) (is_open q s new found) (gives_it found least.0 least.1) least.2, λ a low less. no_more (pool_gives q.names pool a) (is_open q s new a) (least.3 a low less))
-
--- a pool whose class is not held has nothing for the client
-pub none_given : (q : Asking) (s : Subnet) (new : Bool) (pool : Pool) → class_admits pool.class q.names ≡ false → IsLeastGiven q s new pool None
-none_given q s new pool other a low high = by (class_admits pool.class q.names) (has pool.range a) (is_open q s new a) other where
-  by : (t u w : Bool) → t ≡ false → ((t && u) && w) ≡ false
-  by true u w e = absurd (false≢true (sym e))
-  by false u w e = refl
