@@ -28,8 +28,7 @@ pub fn fits(question: &Question<'_>, subnet: &Subnet, address: u32) -> bool
 pub(crate) fn fits_with(choosing: &Choosing<'_>, address: u32) -> bool
     ensures { result ≡ fitting_with choosing.now address }
 {
-    is_common(choosing.question, choosing.subnet, address)
-        || is_address(choosing.own, address)
+    is_common(choosing.question, choosing.subnet, address) || is_address(choosing.own, address)
 }
 
 // Reports whether a pool of the subnet has an address for the client, and it is not reserved.

@@ -268,7 +268,13 @@ fn put_pool(
 {
     put_pool_class(text, name, config.classes(), pool)?;
     put_network(text, name, prefix, pool)?;
-    put_address_of(text, name, pool, config.server(), "the address of the server")?;
+    put_address_of(
+        text,
+        name,
+        pool,
+        config.server(),
+        "the address of the server",
+    )?;
     Ok(())
 }
 
