@@ -75,8 +75,8 @@ one_first q s past a b f g = one_newer q.rows a b (g.first a f.ranked) (f.first 
 one_first q s asked a b f g =
     one_same (requested_address q.message) a b (and_parts (same_address (requested_address q.message) a) (usable q s a) f.ranked).0
     (and_parts (same_address (requested_address q.message) b) (usable q s b) g.ranked).0
-one_first q s fresh a b f g = one_earlier (pool_place s.pools a) (pool_place s.pools b) a b (g.first a f.ranked) (f.first b g.ranked)
-one_first q s expired a b f g = one_earlier (pool_place s.pools a) (pool_place s.pools b) a b (g.first a f.ranked) (f.first b g.ranked)
+one_first q s fresh a b f g = one_earlier (pool_place q.names s.pools a) (pool_place q.names s.pools b) a b (g.first a f.ranked) (f.first b g.ranked)
+one_first q s expired a b f g = one_earlier (pool_place q.names s.pools a) (pool_place q.names s.pools b) a b (g.first a f.ranked) (f.first b g.ranked)
 
 -- the rank with a place
 rank_at : ℕ → Rank
