@@ -31,7 +31,7 @@ use Rattle.kd_kea.specs.Keys.{keys_are_read}
 use Rattle.kd_kea.specs.Options.{kea_options, server_address}
 use Rattle.kd_kea.specs.Plain.{plain}
 use Rattle.kd_kea.specs.Parts.{parts_of_all}
-use Rattle.kd_kea.specs.Pool.{kea_pool, kea_range}
+use Rattle.kd_kea.specs.Pool.{kea_pool, kea_range, may_require}
 use Rattle.kd_kea.specs.Relay.{kea_relay, relays_by, relays_of}
 use Rattle.kd_kea.specs.Reservation.{kea_reservation}
 use Rattle.kd_kea.specs.Settings.{has_server_form, kea_dhcp4, kea_root, kea_settings_with}
@@ -43,7 +43,7 @@ use Rattle.kd_kea.specs.declared.objects.definition.Definition.{Definition}
 use Rattle.kd_kea.specs.declared.objects.subnet.Above.{Above}
 use Rattle.kd_wire.specs.Steps.{◌>>=◌}
 use Rattle.serde_json.specs.Data.{Data}
-use Rattle.serde_json.specs.Find.{get}
+use Rattle.serde_json.specs.Find.{as_str, get}
 
 range_rises : (d : Data) (range : Range) → kea_range d ≡ Some range → range.first ≤ range.last
 unfolding kea_range
@@ -58,7 +58,8 @@ pool_sound known d pool e =
     let keys = passed (keys_are_read pool_keys d) _ pool e in
     let range = came_from (option_and_then kea_range (get (codes "pool") d)) _ pool keys.1 in
     let class = came_from (text_if_given (get (codes "client-class") d)) _ pool range.gives in
-    let options = came_from (kea_options false known (get (codes "option-data") d)) _ pool class.gives in
+    let served = passed (may_require (get (codes "client-class") d >>= as_str)) _ pool class.gives in
+    let options = came_from (kea_options false known (get (codes "option-data") d)) _ pool served.1 in
     let value = came_from (get (codes "pool") d) kea_range range.first range.is in
     subst IsWide (some_is _ pool options.gives) (record {
       some = range_rises value.first range.first value.gives;

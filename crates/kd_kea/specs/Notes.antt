@@ -24,7 +24,7 @@ use Rattle.kd_kea.specs.Keys.{KeyUse, Plain, flag, fraction, is_plain, key_use, 
 use Rattle.kd_kea.specs.Options.{is_served_space, kea_entry, kea_options, server_address}
 use Rattle.kd_kea.specs.Plain.{plain}
 use Rattle.kd_kea.specs.Parts.{parts_of_all}
-use Rattle.kd_kea.specs.Pool.{kea_pool, kea_range}
+use Rattle.kd_kea.specs.Pool.{kea_pool, kea_range, may_require}
 use Rattle.kd_kea.specs.Relay.{kea_relay}
 use Rattle.kd_kea.specs.Reservation.{kea_reservation}
 use Rattle.kd_kea.specs.Settings.{finds_reservations, kea_dhcp4, kea_root, turns_nothing_on}
@@ -405,6 +405,8 @@ pool_notes known path d =
     (own_notes pool_keys path d
     ++ note_unless (is_some (get (codes "pool") d >>= kea_range)) Wrong path (codes "pool")
     ++ text_note (codes "client-class") path d
+    ++ note_unless (may_require (get (codes "client-class") d >>= as_str)) Unknown path
+    (codes "client-class")
     ++ option_notes false known path d)
 
 -- the note on a host name, if there is one: it is wrong, or it would have a suffix

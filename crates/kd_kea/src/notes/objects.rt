@@ -24,7 +24,7 @@ use crate::objects::class::{ClassReader, has_class_name};
 use crate::objects::definition::{Definition, DefinitionReader, definitions_alone, known_alone};
 use crate::objects::entry::{OptionReader, has_served_space};
 use crate::objects::host_name::names_are_bare;
-use crate::objects::pool::{PoolReader, has_range};
+use crate::objects::pool::{PoolReader, has_range, has_served_class};
 use crate::objects::relay::RelayReader;
 use crate::objects::reservation::ReservationReader;
 use crate::objects::scope::{OptionScope, part_scope, scope_of_all};
@@ -278,6 +278,13 @@ impl<'a> NotedObject for PoolObject<'a> {
         note_keys(&mut inner, pool, path, ObjectKind::Pool)?;
         note_failed(&mut inner, has_range(pool), path, "pool", NoteKind::Wrong)?;
         note_text(&mut inner, pool, path, "client-class")?;
+        note_failed(
+            &mut inner,
+            has_served_class(pool),
+            path,
+            "client-class",
+            NoteKind::Unknown,
+        )?;
         note_part_options(&mut inner, pool, path, self.known)?;
         append_checked(notes, inner, &PoolReader { known: self.known }, pool, path)
     }
