@@ -21,7 +21,7 @@ use Rattle.kd_kea.specs.Definitions.{are_apart, kea_definition, kea_definitions,
 use Rattle.kd_kea.specs.Kea.{kea_settings}
 use Rattle.kd_kea.specs.HostName.{has_bare_names, host_name, host_options, may_be_named, server_has_bare_names}
 use Rattle.kd_kea.specs.Keys.{flag, keys_are_read, served, whole}
-use Rattle.kd_kea.specs.Notes.{KeyNote, ObjectNotes, above_by, around_of, beside_note, class_notes, data_notes, definition_note, definition_notes, each_described, flag_note, have_refused, host_notes, is_not_failed, is_served_if_given, item_notes, items_of, kea_below, kea_beside, kea_notes, kea_value, usable_definitions, list_notes, listed_notes, lists_by, name_notes, note_on_name, note_unless, notes_at, notes_of_each, number_note, object_notes, option_notes, or_wrong, own_notes, pool_notes, relay_notes, right_definitions, root_notes, server_lists, server_notes, server_times, server_values, subnet_lists, subnet_notes, subnet_own, subnet_values, text_note, all_times, value_notes, with_first}
+use Rattle.kd_kea.specs.Notes.{KeyNote, ObjectNotes, above_by, around_of, beside_note, class_notes, data_notes, definition_note, definition_notes, each_described, flag_note, have_refused, host_notes, is_not_failed, is_served_if_given, item_notes, items_of, kea_below, kea_beside, kea_notes, kea_value, usable_definitions, list_notes, listed_notes, lists_by, name_notes, note_on_name, note_unless, notes_at, notes_of_each, number_note, object_notes, option_notes, or_wrong, own_notes, pool_notes, relay_notes, right_definitions, root_notes, server_lists, server_notes, server_times, server_values, subnet_lists, subnet_notes, subnet_own, subnet_values, text_note, all_times, value_notes, with_first, required_notes}
 use Rattle.kd_kea.specs.Options.{is_served_space, kea_entry, kea_options, server_address}
 use Rattle.kd_kea.specs.Parts.{parts_of_all}
 use Rattle.kd_kea.specs.Pool.{kea_pool, kea_range, may_require}
@@ -140,7 +140,7 @@ definitions_pass in_class d its path e =
     (list_at_pass 256 (kea_definition in_class) (definition_note in_class) (definition_pass in_class) (path_below path (codes "option-def")) (get (codes "option-def") d) read.first read.is)
 
 pool_pass : (known : List Definition) → NoneRefused (kea_pool known) (pool_notes known)
-unfolding kea_pool pool_notes
+unfolding kea_pool pool_notes required_notes
 pool_pass known d pool path e =
     let keys = passed (keys_are_read pool_keys d) _ pool e in
     let range = came_from (get (codes "pool") d >>= kea_range) _ pool keys.1 in
@@ -151,13 +151,13 @@ pool_pass known d pool path e =
     let of_range = note_unless (is_some (get (codes "pool") d >>= kea_range)) Wrong path (codes "pool") in
     let of_class = text_note (codes "client-class") path d in
     let of_served = note_unless (may_require (get (codes "client-class") d >>= as_str)) Unknown path (codes "client-class") in
-    object_none (kea_pool known d) pool path d (keyed ++ of_range ++ of_class ++ of_served ++ option_notes false known path d) e (is_object pool_keys d keys.0)
-    (none_in_both (keyed ++ of_range ++ of_class ++ of_served) (option_notes false known path d)
-    (none_in_both (keyed ++ of_range ++ of_class) of_served
-    (none_in_both (keyed ++ of_range) of_class
+    object_none (kea_pool known d) pool path d (keyed ++ of_range ++ required_notes path d ++ option_notes false known path d) e (is_object pool_keys d keys.0)
+    (none_in_both (keyed ++ of_range ++ required_notes path d) (option_notes false known path d)
+    (none_in_both (keyed ++ of_range) (required_notes path d)
     (none_in_both keyed of_range (own_pass pool_keys path d keys.0) (right (get (codes "pool") d >>= kea_range) range.first path (codes "pool") range.is))
-    (right (text_if_given (get (codes "client-class") d)) class.first path (codes "client-class") class.is))
-    (unless_none (may_require (get (codes "client-class") d >>= as_str)) Unknown path (codes "client-class") served.0))
+    (none_in_both of_class of_served
+    (right (text_if_given (get (codes "client-class") d)) class.first path (codes "client-class") class.is)
+    (unless_none (may_require (get (codes "client-class") d >>= as_str)) Unknown path (codes "client-class") served.0)))
     (options_pass false known d options.first path options.is))
 
 -- the options of a reservation
@@ -443,7 +443,7 @@ pub pool_noted : (known : List Definition) (path : List ℕ) (d : Data) → kea_
 unfolding pool_notes
 pool_noted known path d e =
     let of_range = note_unless (is_some (get (codes "pool") d >>= kea_range)) Wrong path (codes "pool") in
-    nothing_noted (kea_pool known d) path d (own_notes pool_keys path d ++ of_range ++ text_note (codes "client-class") path d ++ note_unless (may_require (get (codes "client-class") d >>= as_str)) Unknown path (codes "client-class") ++ option_notes false known path d) e
+    nothing_noted (kea_pool known d) path d (own_notes pool_keys path d ++ of_range ++ required_notes path d ++ option_notes false known path d) e
 
 pub host_noted : (known : List Definition) (bare : Bool) (path : List ℕ) (d : Data) → kea_reservation known bare d ≡ None → have_refused (host_notes known bare path d) ≡ true
 unfolding host_notes

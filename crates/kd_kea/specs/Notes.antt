@@ -398,15 +398,20 @@ definition_notes in_class path d =
     (path_below path (codes "option-def"))
     (notes_of_each (definition_note in_class) path (codes "option-def") d)
 
+-- the notes on the class that a pool requires
+unfoldable pub required_notes : ObjectNotes
+required_notes path d =
+    text_note (codes "client-class") path d
+    ++ note_unless (may_require (get (codes "client-class") d >>= as_str)) Unknown path
+    (codes "client-class")
+
 -- the notes of a pool at a path
 unfoldable pub pool_notes : List Definition → ObjectNotes
 pool_notes known path d =
     object_notes (is_some (kea_pool known d)) path d
     (own_notes pool_keys path d
     ++ note_unless (is_some (get (codes "pool") d >>= kea_range)) Wrong path (codes "pool")
-    ++ text_note (codes "client-class") path d
-    ++ note_unless (may_require (get (codes "client-class") d >>= as_str)) Unknown path
-    (codes "client-class")
+    ++ required_notes path d
     ++ option_notes false known path d)
 
 -- the note on a host name, if there is one: it is wrong, or it would have a suffix
