@@ -127,12 +127,17 @@ network_lines name prefix pool =
     else pool_note name pool prefix.address (codes "the address of the network")
     ++ pool_note name pool (last_of prefix) (codes "the broadcast address")
 
--- the lines about a pool: its class, and the addresses of it that no client should have
+-- the lines about the addresses of a pool that no client should have
+unfoldable pub address_advice : List ℕ → ℕ → Prefix → Pool → List ℕ
+address_advice name server prefix pool =
+    network_lines name prefix pool
+    ++ pool_note name pool server (codes "the address of the server")
+
+-- the lines about a pool
 abbrev pub pool_advice : List ℕ → Configuration → Prefix → Pool → List ℕ
 pool_advice name config prefix pool =
     pool_class_note name pool (required_trouble config.classes pool.class)
-    ++ network_lines name prefix pool
-    ++ pool_note name pool config.server (codes "the address of the server")
+    ++ address_advice name config.server prefix pool
 
 -- ---- together
 

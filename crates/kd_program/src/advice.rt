@@ -1,7 +1,7 @@
 ghost use Rattle.std.specs.Prelude.{◌≡◌, ◌++◌, ◌||◌, Bool, OnOk, Result, is_some, option_copied, option_map, string_bytes};
 ghost use Rattle.std.specs.List.{flat_map, list_any};
 ghost use Rattle.kd_trouble.specs.declared.troubles.SocketTrouble.{SocketTrouble};
-ghost use Rattle.kd_program.specs.Advice.{IsFoundMissing, advice_lines, asks_relay, class_trouble, def_asks, defined, is_absent, last_of, network_lines, pool_advice, pool_class_note, pool_class_text, pool_name, pool_note};
+ghost use Rattle.kd_program.specs.Advice.{IsFoundMissing, address_advice, advice_lines, asks_relay, class_trouble, def_asks, defined, is_absent, last_of, network_lines, pool_advice, pool_class_note, pool_class_text, pool_name, pool_note};
 ghost use Rattle.kd_program.specs.Advice.{pool_text, required_trouble, server_advice, server_text, subnet_advice, subnet_note, subnet_text, test_asks};
 
 use crate::host::Host;
@@ -255,7 +255,7 @@ fn put_pools(
     Ok(())
 }
 
-// Prints the lines about a pool: its class, and the addresses of it that no client should have.
+// Prints the lines about a pool.
 fn put_pool(
     text: &mut String,
     name: &str,
@@ -267,14 +267,24 @@ fn put_pool(
         ≡ string_bytes text.old ++ pool_advice name.now config.now prefix pool.now) }
 {
     put_pool_class(text, name, config.classes(), pool)?;
+    put_addresses(text, name, config.server(), prefix, pool)?;
+    Ok(())
+}
+
+// Prints a line for each address of a pool that no client should have.
+#[tactic(auto, unfolding(crate::specs::Advice::address_advice))]
+fn put_addresses(
+    text: &mut String,
+    name: &str,
+    server: u32,
+    prefix: Prefix,
+    pool: &Pool,
+) -> Result<(), AllocError>
+    ensures { OnOk result (string_bytes text.new
+        ≡ string_bytes text.old ++ address_advice name.now server prefix pool.now) }
+{
     put_network(text, name, prefix, pool)?;
-    put_address_of(
-        text,
-        name,
-        pool,
-        config.server(),
-        "the address of the server",
-    )?;
+    put_address_of(text, name, pool, server, "the address of the server")?;
     Ok(())
 }
 
