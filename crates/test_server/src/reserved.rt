@@ -165,8 +165,9 @@ fn set(leases: &mut Leases, row: Row) -> Result<(), Fault> {
     if !row.is_in_range() || row.changed < leases.rows().latest() {
         return Err(Fault::Other);
     }
-    leases.reserve(&row)?;
-    leases.set(row);
+    if leases.prepare(&row)? {
+        leases.set(row);
+    }
     Ok(())
 }
 
