@@ -1,7 +1,7 @@
 ghost use Rattle.std.specs.Prelude.{◌≡◌, ◌++◌, IfOk, OnOk, codes};
-ghost use Rattle.std.specs.List.{find};
+ghost use Rattle.std.specs.List.{find, list_any};
 ghost use Rattle.std.specs.Option.{option_copied};
-ghost use Rattle.kd_kea.specs.Options.{inner_option, is_entry, option_with, options_below, options_by};
+ghost use Rattle.kd_kea.specs.Options.{inner_option, is_entry, is_of_space, option_with, options_below, options_by};
 
 use crate::objects::entry::{LONGEST_INNER, OptionEntry};
 use crate::objects::space::is_of_messages;
@@ -34,12 +34,31 @@ fn option_of(
     ensures { IfOk result (λ option. option ≡ option_with entries.now entry.now) }
 {
     let mut value = Vec::from_slice(alloc, entry.value.as_slice())?;
-    push_inside(&mut value, entry.inner.as_slice(), entries, u8::MAX)?;
+    push_space(&mut value, entry.inner.as_slice(), entries)?;
     Ok(OptionData {
         code: entry.code,
         value: Bytes::own(value),
         always: entry.always,
     })
+}
+
+// Appends the options of a space, in rising order of their codes. Most lists have none of the space.
+fn push_space(out: &mut Vec<u8>, space: &[u8], entries: &[OptionEntry]) -> Result<(), AllocError>
+    ensures { OnOk result (out.new.items
+        ≡ out.old.items ++ options_below entries.now space.now 255) }
+{
+    if has_space(entries, space) {
+        push_inside(out, space, entries, u8::MAX)
+    } else {
+        Ok(())
+    }
+}
+
+// Reports whether one of these entries is of a space.
+pub(crate) fn has_space(entries: &[OptionEntry], space: &[u8]) -> bool
+    ensures { result ≡ list_any (is_of_space space.now) entries.now }
+{
+    entries.iter().any(|entry| entry.space.as_slice() == space)
 }
 
 // Appends the options of a space that have a code below an end, in rising order of their codes.

@@ -10,7 +10,7 @@ ghost use Rattle.kd_kea.specs.Options.{address_in_bytes, entries_differ, is_entr
 ghost use Rattle.kd_kea.specs.Scope.{definitions_in};
 
 use crate::objects::entry::{OPTION_SERVER_IDENTIFIER, OptionEntry, OptionReader};
-use crate::objects::inside::options_among;
+use crate::objects::inside::{has_space, options_among};
 use crate::objects::scope::OptionScope;
 use crate::objects::space::is_of_messages;
 use kd_classes::{OptionData, OptionList};
@@ -93,13 +93,6 @@ fn holds_well(entry: &OptionEntry, entries: &[OptionEntry]) -> bool
     !has_space(entries, entry.inner.as_slice())
         || is_of_messages(entry.space.as_slice())
             && (entry.is_text || entry.value.as_slice().is_empty())
-}
-
-// Reports whether one of these entries is of a space.
-fn has_space(entries: &[OptionEntry], space: &[u8]) -> bool
-    ensures { result ≡ list_any (is_of_space space.now) entries.now }
-{
-    entries.iter().any(|entry| entry.space.as_slice() == space)
 }
 
 // Checks that no option is too long.
