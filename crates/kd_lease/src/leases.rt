@@ -86,8 +86,7 @@ impl Leases {
         ensures least { self.new.table.least ≡ self.old.table.least }
         ensures same { IfOk result (λ changes. (changes ≡ false)
             ↔ (with_row row.now self.old.table.rows ≡ self.old.table.rows)) }
-        ensures spare { IfOk result (λ changes. changes ≡ true
-            → room_for_row self.new.table row.now ≡ true) }
+        ensures spare { OnOk result (room_for_row self.new.table row.now ≡ true) }
         ensures needed { OnErr result (room_for_row self.old.table row.now ≡ false) }
         ensures changed { OnErr result
             (with_row row.now self.old.table.rows ≢ self.old.table.rows) }

@@ -1,5 +1,5 @@
 -- The rows after one is set.
-use Rattle.std.proofs.Common.{◌≡◌, ℕ, ◌+◌, ◌<◌, ◌≤◌, Bool, true, false, List, [], ◌∷◌, length, get_or, set, zero, suc, refl, sym, ap, ◌∙◌, ◌⊎◌, ◌^◌, ◌↔◌, IsTrue, inl, inr, lit<, subst, Option, Some, None, arith, if◌then◌else◌, ◌==◌, nat_lt}
+use Rattle.std.proofs.Common.{◌≡◌, ℕ, ◌+◌, ◌<◌, ◌≤◌, Bool, true, false, List, [], ◌∷◌, length, get_or, set, zero, suc, refl, sym, ap, ◌∙◌, ◌⊎◌, ◌^◌, ◌↔◌, IsTrue, inl, inr, lit<, subst, Option, Some, None, arith, if◌then◌else◌, is_some, ◌==◌, ◌||◌, nat_lt}
 use Rattle.std.specs.List.{All, insert}
 use Rattle.std.proofs.lemmas.Bool.{cases_lt, eq-eqb, eqb-true, le-ltb}
 use Rattle.std.proofs.lemmas.Bool.Decides.{nat_tests}
@@ -7,7 +7,7 @@ use Rattle.std.proofs.lemmas.Option.{same_Some}
 use Rattle.kd_rows.specs.declared.row.Row.{Row}
 use Rattle.kd_rows.specs.Index.{IsRowPlace, IsPlace}
 use Rattle.kd_rows.specs.Row.{IsInRange}
-use Rattle.kd_rows.specs.Table.{Rise, RiseFrom, latest_of, row_at, with_row}
+use Rattle.kd_rows.specs.Table.{Rise, RiseFrom, Table, latest_of, room_for_row, row_at, with_row}
 use Rattle.kd_rows.proofs.Places.{none_below}
 
 -- what is read after a row is set
@@ -126,3 +126,7 @@ unchanged_if row r rows same rise found is =
 
 pub changed_if : (row : Row) (rows : List Row) → row_at rows row.address ≡ None → with_row row rows ≡ rows → ⊥
 changed_if row rows none e = let h = read_back row rows e in cc
+
+-- where setting a row changes nothing, its address has a row: so it can be set without memory
+pub stays_spare : (table : Table) (row : Row) → with_row row table.rows ≡ table.rows → room_for_row table row ≡ true
+stays_spare table row same = ap (λ (b : Bool). b || nat_lt 0 table.room) (ap is_some (read_back row table.rows same))

@@ -276,13 +276,13 @@ impl Rows {
     ///
     /// The row would change the table, there was no room, and there is no memory for more; the rows
     /// stay as they are.
+    #[tactic(auto, using(crate::proofs::Sets::stays_spare))]
     pub fn prepare(&mut self, row: &Row) -> Result<bool, AllocError>
         ensures rows { self.new.rows ≡ self.old.rows }
         ensures least { self.new.least ≡ self.old.least }
         ensures same { IfOk result (λ changes. (changes ≡ false)
             ↔ (with_row row.now self.old.rows ≡ self.old.rows)) }
-        ensures spare { IfOk result (λ changes. changes ≡ true
-            → room_for_row self.new row.now ≡ true) }
+        ensures spare { OnOk result (room_for_row self.new row.now ≡ true) }
         ensures needed { OnErr result (room_for_row self.old row.now ≡ false) }
         ensures changed { OnErr result (with_row row.now self.old.rows ≢ self.old.rows) }
     {

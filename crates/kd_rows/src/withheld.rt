@@ -122,14 +122,14 @@ impl Withheld {
     ///
     /// The row would change the table, there was no room, and there is no memory for more; the rows
     /// stay as they are.
+    #[tactic(auto, using(crate::proofs::Sets::stays_spare))]
     pub fn prepare(&mut self, row: &Row) -> Result<bool, AllocError>
         ensures rows { self.new.table.rows ≡ self.old.table.rows }
         ensures least { self.new.table.least ≡ self.old.table.least }
         ensures withheld { self.new.withheld ≡ self.old.withheld }
         ensures same { IfOk result (λ changes. (changes ≡ false)
             ↔ (with_row row.now self.old.table.rows ≡ self.old.table.rows)) }
-        ensures spare { IfOk result (λ changes. changes ≡ true
-            → room_for_row self.new.table row.now ≡ true) }
+        ensures spare { OnOk result (room_for_row self.new.table row.now ≡ true) }
         ensures needed { OnErr result (room_for_row self.old.table row.now ≡ false) }
         ensures changed { OnErr result
             (with_row row.now self.old.table.rows ≢ self.old.table.rows) }
