@@ -7,10 +7,8 @@ use Rattle.std.specs.Option.{option_or}
 use Rattle.std.specs.Str.{bytes_eq}
 use Rattle.std.proofs.lemmas.Option.{none-some, same_Some}
 use Rattle.indexmap.specs.IndexMap.{insert_entry}
-use Rattle.kd_config.specs.Reservation.{ArePlaces, bytes_of_kind, earlier, found_if, identified_by, is_client, is_client_if}
+use Rattle.kd_config.specs.Reservation.{ArePlaces, earlier, found_if, identified_by, is_client, is_client_if}
 use Rattle.kd_config.specs.declared.reservation.Reservation.{Reservation}
-use Rattle.kd_config.specs.declared.reservation.Identity.{Identity}
-use Rattle.kd_config.specs.declared.reservation.Identity.TheVariants.{Hardware, ClientId}
 
 -- the value of a key that was not there
 pub inserted : {K : Type 0} (items : K → List ℕ) (es : List (K × ℕ)) (key : K) (v : ℕ) (other : List ℕ) → lookup (λ k. bytes_eq (items key) (items k)) es ≡ None

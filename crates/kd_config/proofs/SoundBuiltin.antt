@@ -32,6 +32,7 @@ subnet = record {
   few_reservations = omega arith;
   reservations = tt;
   options = no_options;
+  shared = no_options;
 }
 
 together : may_stand builtin_config.subnets ≡ true

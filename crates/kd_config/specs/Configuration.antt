@@ -32,6 +32,8 @@ subnet_built_in = record {
   pools = builtin_pool ∷ [];
   reservations = [];
   options = [];
+  network = 0;
+  shared = [];
 }
 
 -- the built-in configuration: the server is 192.0.2.1

@@ -6,3 +6,4 @@ pub mod Rules
 pub mod Configuration
 pub mod Sound
 pub mod Laws
+pub mod Networks

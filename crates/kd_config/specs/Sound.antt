@@ -95,6 +95,7 @@ pub record IsSubnet (subnet : Subnet) : Type 0 where
   pub few_reservations : length subnet.reservations ≤ 4096
   pub reservations : AllByRecursion IsReservation subnet.reservations
   pub options : AreOptions subnet.options
+  pub shared : AreOptions subnet.shared
 
 -- subnets that are accepted together
 pub record AreSubnets (subnets : List Subnet) : Type 0 where

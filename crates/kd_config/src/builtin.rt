@@ -25,13 +25,14 @@ impl Config {
     {
         let mut subnets = Vec::new(alloc);
         subnets.push(builtin_subnet(alloc)?)?;
-        Ok(Config::of(
+        Config::of(
+            alloc,
             0xc000_0201,
             builtin_times(),
             OptionList::own(Vec::new(alloc)),
             no_classes(alloc),
             Entries::own(subnets),
-        ))
+        )
     }
 }
 
@@ -71,6 +72,8 @@ fn builtin_subnet(alloc: Global) -> Result<Subnet, AllocError>
         pools: Entries::own(pools),
         reservations: Reservations::none(alloc),
         options: OptionList::own(Vec::new(alloc)),
+        network: 0,
+        shared: OptionList::own(Vec::new(alloc)),
     })
 }
 

@@ -1,10 +1,14 @@
-ghost use Rattle.std.specs.Prelude.{◌≡◌};
+ghost use Rattle.std.specs.Prelude.{◌≡◌, IfOk};
+ghost use Rattle.std.specs.Option.{option_copied};
+ghost use Rattle.kd_config.specs.Networks.{covers, home_of, network_at, part_holding};
 ghost use Rattle.kd_config.specs.Sound.{IsSound};
 
+use crate::networks::{has_in, networks_of, part_of};
 use crate::subnet::Subnet;
 use crate::times::Times;
 use kd_classes::{Classes, OptionData, OptionList};
 use kd_wire::Entries;
+use std::alloc::{AllocError, Global};
 use std::marker::Model;
 
 /// A server's configuration. Each value is in its range, each list is within its limit, and the
@@ -16,10 +20,14 @@ pub struct Config {
     options: OptionList,
     classes: Classes,
     subnets: Entries<Subnet>,
+    // Each shared network as one subnet, by its number.
+    networks: Vec<Subnet>,
 }
 
 impl Model for Config {
+    ghost use Rattle.std.specs.Prelude.{◌≡◌};
     ghost use Rattle.kd_config.specs.Configuration.{Configuration};
+    ghost use Rattle.kd_config.specs.Networks.{networks_in};
     ghost use Rattle.kd_config.specs.Sound.{IsSound};
 
     ghost Value = { Configuration };
@@ -38,18 +46,23 @@ impl Model for Config {
       options = c.options;
       classes = c.classes;
       subnets = c.subnets;
-    }) };
+    }) × (c.networks.items ≡ networks_in c.subnets) };
 }
 
 impl Config {
     /// Makes the configuration of its parts.
+    ///
+    /// # Errors
+    ///
+    /// Out of memory for the shared networks.
     pub fn of(
+        alloc: Global,
         server: u32,
         times: Times,
         options: OptionList,
         classes: Classes,
         subnets: Entries<Subnet>,
-    ) -> Config
+    ) -> Result<Config, AllocError>
         requires { IsSound (record {
           server = server;
           times = times;
@@ -57,21 +70,23 @@ impl Config {
           classes = classes;
           subnets = subnets;
         }) }
-        ensures { result ≡ record {
+        ensures { IfOk result (λ config. config ≡ record {
           server = server;
           times = times;
           options = options;
           classes = classes;
           subnets = subnets;
-        } }
+        }) }
     {
-        Config {
+        let networks = networks_of(alloc, subnets.as_slice())?;
+        Ok(Config {
             server,
             times,
             options,
             classes,
             subnets,
-        }
+            networks,
+        })
     }
 
     /// Returns the server's address, in host order; never 0.0.0.0.
@@ -113,5 +128,52 @@ impl Config {
         ensures sound { IsSound self.now }
     {
         self.subnets.as_slice()
+    }
+
+    /// Returns the subnet in which a client of this one is served: its shared network as one subnet,
+    /// or itself if it is in none (Kea, Shared Networks in DHCPv4).
+    pub fn home<'a>(&'a self, subnet: &'a Subnet) -> &'a Subnet
+        ensures { result.now ≡ home_of self.now.subnets subnet.now }
+    {
+        match self.network(subnet.network) {
+            Some(network) => network,
+            None => subnet,
+        }
+    }
+
+    // Returns the shared network with a number as one subnet, if there is one.
+    fn network(&self, number: u32) -> Option<&Subnet>
+        ensures { option_copied result ≡ network_at self.now.subnets number }
+    {
+        if number == 0 {
+            return None;
+        }
+        self.networks.get(number as usize - 1)
+    }
+
+    /// Reports whether a subnet or another of its shared network has an address, in host order, in
+    /// its prefix.
+    pub fn spans(&self, subnet: &Subnet, address: u32) -> bool
+        ensures { result ≡ covers self.now.subnets subnet.now address }
+    {
+        if subnet.network == 0 {
+            subnet.prefix.contains(address)
+        } else {
+            has_in(self.subnets(), subnet.network, address)
+        }
+    }
+
+    /// Returns the subnet that has an address, in host order: the first of the shared network that
+    /// has it in its prefix; or the given one if that is in no network, or no subnet has the address.
+    pub fn member_with<'a>(&'a self, subnet: &'a Subnet, address: u32) -> &'a Subnet
+        ensures { result.now ≡ part_holding self.now.subnets subnet.now address }
+    {
+        if subnet.network == 0 {
+            return subnet;
+        }
+        match part_of(self.subnets(), subnet.network, address) {
+            Some(part) => part,
+            None => subnet,
+        }
     }
 }

@@ -11,7 +11,9 @@
 
 mod builtin;
 mod config;
+mod copies;
 pub mod laws;
+mod networks;
 mod pool;
 mod prefix;
 mod range;
@@ -21,6 +23,7 @@ mod subnet;
 mod times;
 
 pub use config::Config;
+pub use copies::{class_copied, options_copied};
 pub use kd_wire::Entries;
 pub use pool::Pool;
 pub use prefix::Prefix;

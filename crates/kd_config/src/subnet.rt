@@ -20,4 +20,8 @@ pub struct Subnet {
     pub reservations: Reservations,
     /// The options of the replies to its clients.
     pub options: OptionList,
+    /// The number of the shared network that it is in, from 1; 0 if it is in none.
+    pub network: u32,
+    /// The options of that network.
+    pub shared: OptionList,
 }
