@@ -1,5 +1,5 @@
 -- The first subnet that breaks a rule, and the value that breaks it.
-use Rattle.std.proofs.Common.{◌≡◌, ℕ, zero, suc, ◌+◌, ◌-◌, ◌<◌, ◌≤◌, Bool, true, false, not, ◌&&◌, nat_le, List, [], ◌∷◌, ◌++◌, length, get_or, take, drop, codes, slice_get, Some, None, ap, sym, refl, subst, ◌∙◌, arith, append-nil, append_assoc, inl, inr}
+use Rattle.std.proofs.Common.{◌≡◌, ℕ, zero, suc, ◌+◌, ◌-◌, ◌<◌, ◌≤◌, Bool, true, false, not, ◌&&◌, ◌==◌, if◌then◌else◌, nat_le, List, [], ◌∷◌, ◌++◌, length, get_or, take, drop, codes, slice_get, Some, None, ap, sym, refl, subst, ◌∙◌, arith, append-nil, append_assoc, inl, inr}
 use Rattle.std.proofs.lemmas.Bool.{false≢true, le-leb, leb-true, leb-false}
 use Rattle.std.proofs.lemmas.Grind.{flat_map-append}
 use Rattle.std.proofs.lemmas.List.{length-append, map-append, take-append-drop, take-append-le, take-take, take_all, take_at, take_more}
@@ -11,7 +11,7 @@ use Rattle.kd_config.proofs.Tests.{both_passed, not_and, or_false, some_is}
 use Rattle.kd_json.proofs.FirstFaults.{cut_at_place, one_more_at}
 use Rattle.kd_json.proofs.Shared.{must_failed, must_passed, one_more}
 use Rattle.kd_config.specs.Apart.{lie_apart, share_one}
-use Rattle.kd_json.specs.FirstFault.{PoolFails, ReservationFails, SubnetFails, SubnetsFail, all_reserved, path_below, with_pools, with_reservations}
+use Rattle.kd_json.specs.FirstFault.{PoolFails, ReservationFails, SubnetFails, SubnetsFail, all_reserved, in_network, path_below, subnet_path, subnets_path, with_pools, with_reservations}
 use Rattle.kd_json.specs.Parts.{lie_and_fit, obey_within, obeys_within}
 use Rattle.kd_config.specs.Rules.{all_obey, lies_within, may_all_reserve, may_stand, obeys, pool_ranges, ranges_in, reserved}
 use Rattle.kd_json.specs.Steps.{must}
@@ -169,26 +169,50 @@ one_last apart left earlier front s decide =
     ∙ (ap (λ (b : Bool). obeys_within left earlier s && (b && true)) (le-leb 0 n (omega arith))
     ∙ and_one (obeys_within left earlier s))))
 
+-- the path of the object that has the subnets of a network
+abbrev pub owner_path : ℕ → List ℕ
+owner_path number =
+    if number == 0 then codes "/Dhcp4"
+    else path_below (codes "/Dhcp4/shared-networks") (decimal (number - 1))
+
+-- the path of a subnet below the object that has it
+pub path_of_subnet : (earlier : List Subnet) (s : Subnet) (owner : List ℕ) (before : ℕ)
+    → owner ≡ owner_path s.network → before ≡ in_network s.network earlier
+    → path_below (path_below owner (codes "subnet4")) (decimal before) ≡ subnet_path earlier s
+path_of_subnet earlier s owner before owned counted =
+    ap (λ (n : ℕ). path_below (path_below owner (codes "subnet4")) (decimal n)) counted
+    ∙ (ap (λ (path : List ℕ). path_below (path_below path (codes "subnet4"))
+    (decimal (in_network s.network earlier))) owned
+    ∙ ap (λ (path : List ℕ). path_below path (decimal (in_network s.network earlier)))
+    (by (s.network == 0) refl)) where
+      by : (b : Bool) → (s.network == 0) ≡ b
+          → path_below (owner_path s.network) (codes "subnet4") ≡ subnets_path s.network
+      by true e = rw e refl
+      by false e = rw e refl
+
 -- the subnet that failed is the first
-pub subnet_failed : (apart left i : ℕ) (path earlier : List ℕ) (subnets : List Subnet)
+pub subnet_failed : (apart left i : ℕ) (at earlier : List ℕ) (subnets : List Subnet)
     (s : Subnet) (fault : ConfigFault) → i < length subnets → s ≡ get_or subnets i s
     → AllDecide apart (take i subnets) left earlier → earlier ≡ all_reserved (take i subnets)
-    → SubnetFails (obeys_within left earlier) (path_below path (decimal i)) earlier s fault
-    → SubnetsFail (obey_within apart []) path subnets fault
-subnet_failed apart left i path earlier subnets s fault below is decide joined h =
-    let at = path_below path (decimal i) in
+    → at ≡ subnet_path (take i subnets) s
+    → SubnetFails (obeys_within left earlier) at earlier s fault
+    → SubnetsFail (obey_within apart []) subnets fault
+subnet_failed apart left i at earlier subnets s fault below is decide joined placed h =
     let last = λ (x : Subnet). one_last apart left earlier (take i subnets) x decide in
     record {
       place = i;
       subnet = s;
       subnet_at = slice_get_read subnets (length subnets) i s refl below is;
       value = subst
+          (λ (path : List ℕ). SubnetFails (λ x. obey_within apart [] (take i subnets ++ x ∷ []))
+          path (all_reserved (take i subnets)) s fault) placed
+          (subst
           (λ (e : List ℕ). SubnetFails (λ x. obey_within apart [] (take i subnets ++ x ∷ [])) at e s
           fault) joined
           (subnet_as (obeys_within left earlier)
           (λ x. obey_within apart [] (take i subnets ++ x ∷ [])) at earlier s fault
           (λ n. last (with_pools s (take n s.pools)))
-          (λ n. last (with_reservations s (take n s.reservations))) h);
+          (λ n. last (with_reservations s (take n s.reservations))) h));
     }
 
 -- a prefix of ranges that are apart is apart
@@ -268,10 +292,10 @@ stands_as apart i subnets s t rest h at parts =
     (as_many_apart apart some others (subst (AreApart apart) (sym whole) h))
 
 -- the first subnet that does not obey the rules is the first that is not accepted
-pub may_not_stand : (apart : ℕ) (path : List ℕ) (subnets : List Subnet) (fault : ConfigFault)
-    → AreApart apart (pool_ranges subnets) → SubnetsFail (obey_within apart []) path subnets fault
-    → SubnetsFail may_stand path subnets fault
-may_not_stand apart path subnets fault apart_is h =
+pub may_not_stand : (apart : ℕ) (subnets : List Subnet) (fault : ConfigFault)
+    → AreApart apart (pool_ranges subnets) → SubnetsFail (obey_within apart []) subnets fault
+    → SubnetsFail may_stand subnets fault
+may_not_stand apart subnets fault apart_is h =
     let s = h.subnet in
     let front = take h.place subnets in
     record {
@@ -279,7 +303,7 @@ may_not_stand apart path subnets fault apart_is h =
       subnet = s;
       subnet_at = h.subnet_at;
       value = subnet_as (λ x. obey_within apart [] (front ++ x ∷ []))
-          (λ x. may_stand (front ++ x ∷ [])) (path_below path (decimal h.place))
+          (λ x. may_stand (front ++ x ∷ [])) (subnet_path front s)
           (all_reserved front) s fault
           (λ n. stands_as apart h.place subnets s (with_pools s (take n s.pools))
           (ranges_in (drop n s.pools)) apart_is h.subnet_at

@@ -123,6 +123,7 @@ subnet_sound d subnet e =
       few_reservations = few_meant 4096 reservation_of (get (codes "reservations") d) reservations.first reservations.is;
       reservations = each_meant IsReservation reservation_of reservation_sound 4096 (get (codes "reservations") d) reservations.first reservations.is;
       options = options_sound (get (codes "option-data") d) options.first options.is;
+      shared = no_options;
     })
 
 pub name_sound : (d : Data) (name : List ℕ) → class_name_in d ≡ Some name → IsFrom 1 255 (length name)

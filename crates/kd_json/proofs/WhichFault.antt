@@ -1,6 +1,5 @@
 -- Which fault a text has.
-use Rattle.std.proofs.Common.{◌≡◌, ◌≢◌, ℕ, ◌≤◌, Bool, true, false, if◌then◌else◌, List, [], ◌∷◌, ◌++◌, take, codes, Option, Some, None, refl, ap, subst, sym, ◌∙◌, arith, inl, inr}
-use Rattle.std.specs.Fmt.{decimal}
+use Rattle.std.proofs.Common.{◌≡◌, ◌≢◌, ℕ, ◌≤◌, Bool, true, false, if◌then◌else◌, List, [], ◌∷◌, ◌++◌, take, Option, Some, None, refl, ap, subst, sym, ◌∙◌, arith, inl, inr}
 use Rattle.kd_classes.specs.Order.{AreInOrder}
 use Rattle.kd_classes.specs.declared.definition.ClassDef.{ClassDef}
 use Rattle.kd_config.proofs.Tests.{some_is}
@@ -9,7 +8,7 @@ use Rattle.kd_config.specs.Configuration.{Configuration}
 use Rattle.kd_json.specs.Configured.{AreDefinitions, IsConfigOf, IsConfigured}
 use Rattle.kd_json.specs.Document.{accepted, accepted_settings}
 use Rattle.kd_json.specs.Faults.{config_fault_number}
-use Rattle.kd_json.specs.FirstFault.{all_reserved, path_below, SubnetFails, SubnetsFail, IsFaultOfSettings}
+use Rattle.kd_json.specs.FirstFault.{all_reserved, subnet_path, SubnetFails, SubnetsFail, IsFaultOfSettings}
 use Rattle.kd_json.specs.Parts.{classes_fault, settings_fault}
 use Rattle.kd_config.specs.Rules.{lies_within, may_stand}
 use Rattle.kd_json.specs.declared.fault.ConfigFault.{ConfigFault}
@@ -56,17 +55,17 @@ of_rule test path earlier s fault (inr h) =
     (omega arith) (omega arith) (omega arith) h.number
 
 rule_number : (subnets : List Subnet) (fault : ConfigFault)
-    → SubnetsFail may_stand (codes "/Dhcp4/subnet4") subnets fault
+    → SubnetsFail may_stand subnets fault
     → (74 ≤ config_fault_number fault) × (config_fault_number fault ≤ 76)
 rule_number subnets fault h =
     of_rule (λ s. may_stand (take h.place subnets ++ s ∷ []))
-    (path_below (codes "/Dhcp4/subnet4") (decimal h.place)) (all_reserved (take h.place subnets))
+    (subnet_path (take h.place subnets) h.subnet) (all_reserved (take h.place subnets))
     h.subnet fault h.value
 
 -- a rule is broken
 pub first_of_rules : (spelled : Option Settings) (s : Settings) (fault : ConfigFault)
     → spelled ≡ Some s
-    → (fault ≢ faults.Memory → SubnetsFail may_stand (codes "/Dhcp4/subnet4") s.subnets fault)
+    → (fault ≢ faults.Memory → SubnetsFail may_stand s.subnets fault)
     → IsFaultOfSettings spelled fault
 first_of_rules spelled s faults.Json e h =
     let n = rule_number s.subnets faults.Json (h (λ k. cc)) in absurd (omega (arith, n.0))

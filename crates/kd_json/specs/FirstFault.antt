@@ -1,7 +1,7 @@
 -- Which fault a text has that describes no configuration (our own format): it describes no
 -- settings; or a rule is broken, the first one subnet by subnet, in each subnet first by its pools
 -- and then by its reservations; or a class of it is refused.
-use Rattle.std.specs.Prelude.{◌≡◌, ◌⊎◌, ℕ, ◌+◌, Bool, true, false, if◌then◌else◌, List, [], ◌∷◌, ◌++◌, take, codes, slice_get, Option, Some, None}
+use Rattle.std.specs.Prelude.{◌≡◌, ◌⊎◌, ℕ, ◌+◌, Bool, true, false, if◌then◌else◌, ◌==◌, ◌-◌, List, [], ◌∷◌, ◌++◌, count_by, take, codes, slice_get, Option, Some, None}
 use Rattle.std.specs.Fmt.{decimal}
 use Rattle.std.specs.List.{flat_map}
 use Rattle.kd_config.specs.Address.{has_address}
@@ -36,6 +36,21 @@ wrong_key prefix earlier r =
 -- the addresses that are reserved in subnets
 abbrev pub all_reserved : List Subnet → List ℕ
 all_reserved subnets = flat_map (λ subnet. reserved subnet.reservations) subnets
+
+-- how many of these subnets are in the network with a number, or in none if it is 0
+abbrev pub in_network : ℕ → List Subnet → ℕ
+in_network number subnets = count_by (λ s. s.network == number) subnets
+
+-- the path of the list of subnets of the network with a number, or of those that are in none
+abbrev pub subnets_path : ℕ → List ℕ
+subnets_path number =
+    if number == 0 then codes "/Dhcp4/subnet4"
+    else codes "/Dhcp4/shared-networks/" ++ decimal (number - 1) ++ codes "/subnet4"
+
+-- the path of a subnet after earlier ones: its index counts those that are in the same network
+abbrev pub subnet_path : List Subnet → Subnet → List ℕ
+subnet_path earlier s =
+    path_below (subnets_path s.network) (decimal (in_network s.network earlier))
 
 -- a subnet with these pools and no reservations
 abbrev pub with_pools : Subnet → List Pool → Subnet
@@ -82,20 +97,20 @@ SubnetFails test path earlier subnet fault =
     ⊎ ReservationFails (λ reservations. test (with_reservations subnet reservations))
     (path_below path (codes "reservations")) earlier subnet.prefix subnet.reservations fault
 
--- the first subnet of the list at a path that fails a test of it and the subnets before it
-pub record SubnetsFail (test : List Subnet → Bool) (path : List ℕ) (subnets : List Subnet)
-    (fault : ConfigFault) : Type 0 where
+-- the first subnet that fails a test of it and the subnets before it
+pub record SubnetsFail (test : List Subnet → Bool) (subnets : List Subnet) (fault : ConfigFault)
+    : Type 0 where
   pub place : ℕ
   pub subnet : Subnet
   pub subnet_at : slice_get subnets place ≡ Some subnet
   pub value : SubnetFails (λ s. test (take place subnets ++ s ∷ []))
-      (path_below path (decimal place)) (all_reserved (take place subnets)) subnet fault
+      (subnet_path (take place subnets) subnet) (all_reserved (take place subnets)) subnet fault
 
 -- there are settings; a value of their subnets is the first that breaks a rule
 pub record BreaksRule (spelled : Option Settings) (fault : ConfigFault) : Type 0 where
   pub settings : Settings
   pub given : spelled ≡ Some settings
-  pub broken : SubnetsFail may_stand (codes "/Dhcp4/subnet4") settings.subnets fault
+  pub broken : SubnetsFail may_stand settings.subnets fault
 
 -- there are settings whose subnets obey the rules
 pub record KeepsRules (spelled : Option Settings) : Type 0 where

@@ -29,7 +29,16 @@ subnet_with prefix class d = do
   pools ← list_of 64 pool_of (get (codes "pools") d)
   reservations ← list_of 4096 reservation_of (get (codes "reservations") d)
   options ← option_list_in (get (codes "option-data") d)
-  Some (record { prefix = prefix; relays = []; class = class; pools = pools; reservations = reservations; options = options })
+  Some (record {
+    prefix = prefix;
+    relays = [];
+    class = class;
+    pools = pools;
+    reservations = reservations;
+    options = options;
+    network = 0;
+    shared = [];
+  })
 
 -- the subnet that a value describes; its `id` is checked but not used
 unfoldable pub subnet_of : Data → Option Subnet

@@ -61,5 +61,5 @@ pub fn config_of(
         subnets,
     } = settings;
     let classes = classes_in(alloc, classes.into_vec(), files)?;
-    Ok(Config::of(server, times, options, classes, subnets))
+    Ok(Config::of(alloc, server, times, options, classes, subnets)?)
 }

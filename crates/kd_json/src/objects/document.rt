@@ -1,4 +1,4 @@
-ghost use Rattle.std.specs.Prelude.{◌≡◌, ◌≢◌, IfErr, codes};
+ghost use Rattle.std.specs.Prelude.{◌≡◌, ◌≢◌, IfErr};
 ghost use Rattle.serde_json.specs.View.{view};
 ghost use Rattle.kd_json.specs.Document.{accepted_settings, value_spelled, settings_spelled};
 ghost use Rattle.kd_json.specs.FirstFault.{SubnetsFail, IsFaultOfText};
@@ -11,7 +11,6 @@ ghost use Rattle.kd_json.specs.declared.objects.faults.SettingsFault.TheVariants
 use crate::fault::ConfigFault;
 use crate::objects::faults::SettingsFault;
 use crate::objects::settings::{Settings, root_of};
-use crate::rules::place::Place;
 use crate::rules::subnets::check_rules;
 use serde_json::Value;
 use std::alloc::Global;
@@ -32,16 +31,14 @@ pub(crate) fn settings_in(alloc: Global, text: &[u8]) -> Result<Settings, Config
 /// # Errors
 ///
 /// The first value that breaks a rule, subnet by subnet: `PoolOutside`, `Overlap` or
-/// `DuplicateReservation` with its path below `/Dhcp4/subnet4`; `Memory`.
+/// `DuplicateReservation` with its path, below `/Dhcp4/subnet4` or below the list of its network,
+/// as `/Dhcp4/shared-networks/0/subnet4`; `Memory`.
 pub fn check_subnets(alloc: Global, settings: &Settings) -> Result<(), ConfigFault>
     ensures checked { Means faults.Memory result (must (may_stand settings.now.subnets)) }
     ensures first { IfErr result (λ fault. fault ≢ faults.Memory
-        → SubnetsFail may_stand (codes "/Dhcp4/subnet4") settings.now.subnets fault) }
+        → SubnetsFail may_stand settings.now.subnets fault) }
 {
-    let root = Place::Root;
-    let dhcp4 = Place::Key(&root, "Dhcp4");
-    let subnets = Place::Key(&dhcp4, "subnet4");
-    check_rules(alloc, settings.subnets.as_slice(), &subnets)
+    check_rules(alloc, settings.subnets.as_slice())
 }
 
 // Reads the settings that a text describes.

@@ -83,6 +83,16 @@ impl<T: Drop> From<AllocFailed<T>> for SettingsFault {
     }
 }
 
+impl From<AllocError> for ClassesFault {
+    ghost use Rattle.kd_json.specs.declared.objects.faults.ClassesFault.TheVariants.{Memory};
+
+    ghost from_gives = { λ _ told. told ≡ Memory };
+
+    fn from(_error: AllocError) -> ClassesFault {
+        ClassesFault::Memory
+    }
+}
+
 impl<T: Drop> From<AllocFailed<T>> for ClassesFault {
     ghost use Rattle.kd_json.specs.declared.objects.faults.ClassesFault.TheVariants.{Memory};
 

@@ -1,7 +1,7 @@
-use Rattle.std.proofs.Common.{arith}
+use Rattle.std.proofs.Common.{arith, take}
 use Rattle.std.proofs.lemmas.Result.{err_from_is_err_and}
 use Rattle.indexmap.specs.IndexSet.{keys}
-use Rattle.kd_json.proofs.FirstSubnets.{all_obeyed, more_joined, not_all_obey, subnet_failed, subnet_passed}
+use Rattle.kd_json.proofs.FirstSubnets.{all_obeyed, more_joined, not_all_obey, path_of_subnet, subnet_failed, subnet_passed}
 use Rattle.kd_json.specs.Parts.{path_at}
 use Rattle.kd_json.proofs.rules.subnets.check_each.Goals as goal
 
@@ -31,8 +31,10 @@ returns-in_err-left-clause-first c =
     let this = c.index-subnets-i in
     let p = err_from_is_err_and c.from_residual.result c.from_residual.ensures.1 in
     rw (p.1, p.2)
-    (λ other. subnet_failed c.args.apart at.left at.i (path_at c.args.at.now) (keys at.earlier)
+    (λ other. subnet_failed c.args.apart at.left at.i _ (keys at.earlier)
     c.args.subnets.now this.result _ (omega arith) this.is at.invariant.decide at.invariant.joined
+    (path_of_subnet (take at.i c.args.subnets.now) this.result (path_at c.owner_at-owner.result)
+    c.count_in.result c.owner_at-owner.ensures c.count_in.ensures)
     (c.in_err-left.ensures.first other))
 
 pub returns-clause-checked : goal.returns-clause-checked
