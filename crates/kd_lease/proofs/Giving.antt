@@ -8,9 +8,10 @@ use Rattle.std.proofs.lemmas.Option.{get_or_from_slice_get, slice_get_within}
 use Rattle.kd_classes.specs.declared.definition.ClassDef.{ClassDef}
 use Rattle.kd_classes.specs.declared.option_list.OptionData.{OptionData}
 use Rattle.kd_config.specs.Configuration.{Configuration}
+use Rattle.kd_config.specs.Networks.{part_holding}
 use Rattle.kd_config.specs.declared.subnet.Subnet.{Subnet}
 use Rattle.kd_machine.specs.Parts.{is_held}
-use Rattle.kd_lease.specs.Given.{class_options, given, prefix_mask, options_of_pool, reserved_options}
+use Rattle.kd_lease.specs.Given.{class_options, given, mask_option, prefix_mask, options_of_pool, reserved_options}
 use Rattle.kd_options.specs.Message.{Seen}
 
 class_options-append : (a b : List ClassDef) (names : List (List ℕ)) → class_options (a ++ b) names ≡ class_options a names ++ class_options b names
@@ -30,15 +31,16 @@ more_classes classes names i class at =
     ∙ class_options-append (take i classes) (class ∷ []) names
 
 -- the options of a configuration, each list as it is found
-pub all_given : (config : Configuration) (subnet : Subnet) (names : List (List ℕ)) (m : Seen) (address : ℕ) (classes all : List OptionData) (mask : List ℕ)
-    → classes ≡ class_options config.classes names → all ≡ config.options → mask ≡ prefix_mask subnet.prefix
-    → reserved_options m subnet ++ options_of_pool subnet.pools address ++ subnet.options ++ classes ++ all ++ record { code = 1; value = mask; always = false } ∷ [] ≡ given config subnet names m address
+pub all_given : (config : Configuration) (subnet part : Subnet) (names : List (List ℕ)) (m : Seen) (address : ℕ) (classes all : List OptionData) (mask : List ℕ)
+    → part ≡ part_holding config.subnets subnet address → classes ≡ class_options config.classes names → all ≡ config.options → mask ≡ prefix_mask part.prefix
+    → reserved_options m subnet ++ options_of_pool subnet.pools address ++ part.options ++ part.shared ++ classes ++ all ++ record { code = 1; value = mask; always = false } ∷ [] ≡ given config subnet names m address
 unfolding given
-all_given config subnet names m address classes all mask c a k =
-    λ i. reserved_options m subnet ++ options_of_pool subnet.pools address ++ subnet.options ++ c i ++ a i ++ record { code = 1; value = k i; always = false } ∷ []
+all_given config subnet part names m address classes all mask p c a k =
+    (λ i. reserved_options m subnet ++ options_of_pool subnet.pools address ++ part.options ++ part.shared ++ c i ++ a i ++ record { code = 1; value = k i; always = false } ∷ [])
+    ∙ ap (λ (s : Subnet). reserved_options m subnet ++ options_of_pool subnet.pools address ++ s.options ++ s.shared ++ class_options config.classes names ++ config.options ++ mask_option s.prefix ∷ []) p
 
 -- the options that a subnet gives, each list as it is found
-pub all_of_subnet : (subnet : Subnet) (m : Seen) (address : ℕ) (reserved pool own : List OptionData)
-    → reserved ≡ reserved_options m subnet → pool ≡ options_of_pool subnet.pools address → own ≡ subnet.options
-    → reserved ++ pool ++ own ≡ reserved_options m subnet ++ options_of_pool subnet.pools address ++ subnet.options
-all_of_subnet subnet m address reserved pool own r p o = λ i. r i ++ p i ++ o i
+pub all_of_subnet : (subnet part : Subnet) (m : Seen) (address : ℕ) (reserved pool own shared : List OptionData)
+    → reserved ≡ reserved_options m subnet → pool ≡ options_of_pool subnet.pools address → own ≡ part.options → shared ≡ part.shared
+    → reserved ++ pool ++ own ++ shared ≡ reserved_options m subnet ++ options_of_pool subnet.pools address ++ part.options ++ part.shared
+all_of_subnet subnet part m address reserved pool own shared r p o n = λ i. r i ++ p i ++ o i ++ n i

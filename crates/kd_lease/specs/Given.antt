@@ -9,6 +9,7 @@ use Rattle.kd_classes.specs.declared.option_list.OptionData.{OptionData}
 use Rattle.kd_config.specs.Address.{prefix_size}
 use Rattle.kd_config.specs.Apart.{has}
 use Rattle.kd_config.specs.Configuration.{Configuration}
+use Rattle.kd_config.specs.Networks.{part_holding}
 use Rattle.kd_config.specs.declared.pool.Pool.{Pool}
 use Rattle.kd_config.specs.declared.prefix.Prefix.{Prefix}
 use Rattle.kd_config.specs.declared.reservation.Reservation.{Reservation}
@@ -52,11 +53,15 @@ abbrev pub mask_option : Prefix → OptionData
 mask_option prefix = record { code = 1; value = prefix_mask prefix; always = false }
 
 -- the options given at an address of a subnet to the client of a message, which is in the classes
--- with these names; for each code, the first in this list takes precedence
+-- with these names; for each code, the first in this list takes precedence. Those of a subnet are
+-- those of the part of its shared network that has the address
 unfoldable pub given : Configuration → Subnet → List (List ℕ) → Seen → ℕ → List OptionData
 given config subnet names m address =
-    reserved_options m subnet ++ options_of_pool subnet.pools address ++ subnet.options
-    ++ class_options config.classes names ++ config.options ++ mask_option subnet.prefix ∷ []
+    reserved_options m subnet ++ options_of_pool subnet.pools address
+    ++ (part_holding config.subnets subnet address).options
+    ++ (part_holding config.subnets subnet address).shared
+    ++ class_options config.classes names ++ config.options
+    ++ mask_option (part_holding config.subnets subnet address).prefix ∷ []
 
 -- the value of a code: that of the first option that has it
 abbrev pub value_in : ℕ → List OptionData → Option (List ℕ)

@@ -1,7 +1,8 @@
 -- What is true of the rules for every configuration, table, message and time.
-use Rattle.std.specs.Prelude.{◌≡◌, ℕ, true, false, ◌&&◌, ◌⊎◌, List, [], Option, Some, None, IsSomeAnd}
+use Rattle.std.specs.Prelude.{◌≡◌, ℕ, true, false, ◌&&◌, ◌⊎◌, List, [], Option, Some, None, option_map, IsSomeAnd}
 use Rattle.std.specs.List.{AllByRecursion, find}
 use Rattle.kd_config.specs.Address.{has_address}
+use Rattle.kd_config.specs.Networks.{covers, home_of, part_holding}
 use Rattle.kd_config.specs.Configuration.{Configuration}
 use Rattle.kd_config.specs.declared.subnet.Subnet.{Subnet}
 use Rattle.kd_options.specs.Kind.{type_number}
@@ -17,7 +18,7 @@ use Rattle.kd_lease.specs.Client.{kind_of}
 use Rattle.kd_lease.specs.Plan.{Outcome, ReplyOption}
 use Rattle.kd_lease.specs.Plan.Outcome.{planned}
 use Rattle.kd_lease.specs.Rules.{Does, IsAbout, Makes, Sets, ending, held_at, renewable, rule_of, serving_subnet}
-use Rattle.kd_lease.specs.SubnetOf.{class_admits, message_place, subnet_serving}
+use Rattle.kd_lease.specs.SubnetOf.{class_admits, first_serving, message_place, subnet_serving}
 use Rattle.kd_lease.specs.declared.plan.PlanKind.TheVariants as kinds
 use Rattle.kd_lease.specs.declared.rule.Ending.{Ending}
 use Rattle.kd_lease.specs.declared.rule.Ending.TheVariants as ends
@@ -106,11 +107,25 @@ OneChange =
     → (new ≡ other) × (got ≡ its)
 
 -- where no subnet names a relay, the first subnet serves whose prefix has the place of the message,
--- and whose class is held
+-- and whose class is held, or the shared network that it is in
 abbrev pub ServesByPrefix : Type 0
 ServesByPrefix =
     (config : Configuration) (names : List (List ℕ)) (h : Header)
     → AllByRecursion (λ s. s.relays ≡ []) config.subnets
     → subnet_serving config names h
-    ≡ find (λ s. has_address s.prefix (message_place config.server h) && class_admits s.class names)
-    config.subnets
+    ≡ option_map (home_of config.subnets)
+    (find (λ s. has_address s.prefix (message_place config.server h) && class_admits s.class names)
+    config.subnets)
+
+-- where no subnet is in a shared network, the first subnet that serves a message serves it alone
+abbrev pub ServesAlone : Type 0
+ServesAlone =
+    (config : Configuration) (names : List (List ℕ)) (h : Header)
+    → AllByRecursion (λ s. s.network ≡ 0) config.subnets
+    → subnet_serving config names h ≡ first_serving config names h
+
+-- a subnet in no network has the addresses of its prefix, and its own options and mask are given
+abbrev pub StandsAlone : Type 0
+StandsAlone =
+    (subnets : List Subnet) (s : Subnet) (a : ℕ) → s.network ≡ 0
+    → (covers subnets s a ≡ has_address s.prefix a) × (part_holding subnets s a ≡ s)

@@ -4,7 +4,7 @@
 -- the times for which an offer and a declined address are held are our own.
 use Rattle.std.specs.Prelude.{◌≡◌, ℕ, ◌+◌, Bool, true, false, not, ◌&&◌, ◌==◌, List, [], ◌∷◌, Option, Some, None, IsSomeAnd, is_some, option_map, if◌then◌else◌}
 use Rattle.std.specs.List.{find, list_any}
-use Rattle.kd_config.specs.Address.{has_address}
+use Rattle.kd_config.specs.Networks.{covers}
 use Rattle.kd_config.specs.declared.subnet.Subnet.{Subnet}
 use Rattle.kd_event.specs.declared.reason.Reason.{Reason}
 use Rattle.kd_event.specs.declared.reason.Reason.TheVariants as reasons
@@ -102,9 +102,9 @@ held_at q a = has_such (held_row q) (row_at q.rows a)
 abbrev pub client_has : Asking → ℕ → Bool
 client_has q a = has_such (belongs_to q.client) (row_at q.rows a)
 
--- the client has a row at an address in the subnet's prefix
+-- the client has a row at an address of the subnet, or of its shared network
 abbrev pub is_record : Asking → Subnet → ℕ → Bool
-is_record q s a = client_has q a && has_address s.prefix a
+is_record q s a = client_has q a && covers q.config.subnets s a
 
 -- the client may renew its lease of an address: the row is the client's, and the address fits
 abbrev pub renewable : Asking → Subnet → ℕ → Bool
@@ -176,7 +176,7 @@ abbrev pub passes_in : (Subnet → ℕ → Bool) → Option Subnet → Option �
 passes_in test None about = false
 passes_in test (Some s) about = passes (test s) about
 
--- a subnet serves the message, and the client has a row at an address in its prefix
+-- a subnet serves the message, and the client has a row at an address of it, or of its shared network
 abbrev pub known_in : Asking → Option Subnet → Bool
 known_in q None = false
 known_in q (Some s) = list_any (λ row. is_record q s row.address) q.rows
@@ -188,7 +188,7 @@ holds_at q about checks.Address = is_some about
 holds_at q about checks.Choice = is_some about
 holds_at q about checks.Subnet = is_some (serving_subnet q)
 holds_at q about checks.Prefix =
-    passes_in (λ s a. has_address s.prefix a) (serving_subnet q) about
+    passes_in (covers q.config.subnets) (serving_subnet q) about
 holds_at q about checks.Client = known_in q (serving_subnet q)
 holds_at q about checks.Owner = passes (client_has q) about
 holds_at q about checks.Fits = passes_in (fitting_for q) (serving_subnet q) about

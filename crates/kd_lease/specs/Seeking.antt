@@ -1,14 +1,16 @@
 -- Helpers of private contracts only: what the rules are applied to as the code represents it, and
 -- what is searched among a client's addresses and in pools.
-use Rattle.std.specs.Prelude.{◌≡◌, ℕ, ◌<◌, ◌≤◌, Bool, true, false, not, ◌&&◌, ◌||◌, is_none, List, Option, Some, None, if◌then◌else◌}
+use Rattle.std.specs.Prelude.{◌≡◌, ℕ, ◌<◌, ◌≤◌, Bool, true, false, not, ◌&&◌, ◌||◌, ◌==◌, is_none, List, Option, Some, None, if◌then◌else◌}
+use Rattle.std.specs.List.{list_any}
 use Rattle.kd_config.specs.Address.{has_address}
 use Rattle.kd_config.specs.Configuration.{Configuration}
 use Rattle.kd_config.specs.declared.pool.Pool.{Pool}
+use Rattle.kd_config.specs.declared.prefix.Prefix.{Prefix}
 use Rattle.kd_config.specs.declared.subnet.Subnet.{Subnet}
 use Rattle.kd_rows.specs.Table.{row_at}
 use Rattle.kd_lease.specs.Choice.{Asking, Rank, fitting_for, has_such, live_row, pool_gives, pooled, reserved_anywhere, same_address, set_later, past_row, reserved_in}
 use Rattle.kd_lease.specs.Choice.Rank.{fresh, expired}
-use Rattle.kd_lease.specs.Rules.{held_at, offered_to}
+use Rattle.kd_lease.specs.Rules.{client_has, held_at, offered_to}
 use Rattle.kd_lease.specs.declared.candidates.Choosing.{Choosing}
 use Rattle.kd_lease.specs.declared.search.Sought.{Sought}
 use Rattle.kd_lease.specs.declared.search.Sought.TheVariants as seeks
@@ -49,6 +51,15 @@ pool_rank false = expired
 -- a subnet has an address in its prefix and a reservation of it
 abbrev pub reserves : ℕ → Subnet → Bool
 reserves a s = has_address s.prefix a && reserved_in a s
+
+-- the client has a row at an address in a prefix
+abbrev pub has_row_in : Asking → Prefix → Bool
+has_row_in q prefix =
+    list_any (λ row. client_has q row.address && has_address prefix row.address) q.rows
+
+-- the client has a row in the prefix of a subnet, which is in the network with a number
+abbrev pub has_row_of : Asking → ℕ → Subnet → Bool
+has_row_of q number s = s.network == number && has_row_in q s.prefix
 
 -- an address has no row (`true`), or a row that has ended (`false`)
 abbrev pub untaken : Asking → Bool → ℕ → Bool

@@ -1,10 +1,11 @@
 -- The subnet that serves a message (RFC 2131 section 4.3.1; Kea Administrator Reference Manual,
 -- sections How the DHCPv4 Server Selects a Subnet for the Client and Using a Specific Relay Agent
 -- for a Subnet).
-use Rattle.std.specs.Prelude.{ℕ, Bool, true, not, ◌&&◌, ◌==◌, List, Option, Some, None, if◌then◌else◌}
+use Rattle.std.specs.Prelude.{ℕ, Bool, true, not, ◌&&◌, ◌==◌, List, Option, Some, None, option_map, if◌then◌else◌}
 use Rattle.std.specs.List.{find, list_any}
 use Rattle.kd_config.specs.Address.{has_address}
 use Rattle.kd_config.specs.Configuration.{Configuration}
+use Rattle.kd_config.specs.Networks.{home_of}
 use Rattle.kd_config.specs.declared.subnet.Subnet.{Subnet}
 use Rattle.kd_machine.specs.Parts.{is_held}
 use Rattle.kd_wire.specs.declared.header.Header.{Header}
@@ -41,7 +42,13 @@ is_by_relay config names h =
 
 -- the first subnet of the configuration that serves a message whose classes have these names; a
 -- relay that a subnet names as its own comes before all prefixes
-unfoldable pub subnet_serving : Configuration → List (List ℕ) → Header → Option Subnet
-subnet_serving config names h =
+abbrev pub first_serving : Configuration → List (List ℕ) → Header → Option Subnet
+first_serving config names h =
     find (served_by (is_by_relay config names h) (message_place config.server h) names)
     config.subnets
+
+-- the subnet in which such a message is served: the shared network of that subnet, or itself if it
+-- is in none
+unfoldable pub subnet_serving : Configuration → List (List ℕ) → Header → Option Subnet
+subnet_serving config names h =
+    option_map (home_of config.subnets) (first_serving config names h)

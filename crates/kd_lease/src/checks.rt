@@ -1,7 +1,7 @@
-ghost use Rattle.std.specs.Prelude.{◌≡◌, Some};
+ghost use Rattle.std.specs.Prelude.{◌≡◌};
 ghost use Rattle.std.specs.List.{find};
 ghost use Rattle.std.specs.Option.{option_copied};
-ghost use Rattle.kd_config.specs.Address.{has_address};
+ghost use Rattle.kd_config.specs.Networks.{covers};
 ghost use Rattle.kd_lease.specs.Choice.{fitting_for, free_for};
 ghost use Rattle.kd_lease.specs.Rules.{asking, client_has, ending, fails, held_at, holds_at, known_in, passes, passes_in, serving_subnet};
 
@@ -11,7 +11,6 @@ use crate::question::Question;
 use crate::rule::{Check, Ending, Line};
 use crate::search::{is_client_at, is_held_at, knows_client};
 use crate::server::{names_other, server_of};
-use kd_config::Subnet;
 
 /// Returns how a message ends: as the first check of its rule that it does not pass says, or if it
 /// passes them all, as the rule does (RFC 2131 section 4.3).
@@ -63,32 +62,26 @@ pub fn holds(matter: &Matter<'_>, check: Check) -> bool
     }
 }
 
-// Reports whether the prefix of the subnet that serves the message contains an address.
+// Reports whether the subnet that serves the message, or another of its shared network, has an address
+// in its prefix.
 fn is_in_prefix(question: &Question<'_>, address: Option<u32>) -> bool
-    ensures { result
-        ≡ passes_in (λ s a. has_address s.prefix a) (serving_subnet (asking question.now)) address }
+    ensures { result ≡ passes_in (covers question.now.config.now.subnets)
+        (serving_subnet (asking question.now)) address }
 {
     match (question.subnet, address) {
-        (Some(subnet), Some(address)) => subnet.prefix.contains(address),
+        (Some(subnet), Some(address)) => question.config.spans(subnet, address),
         _ => false,
     }
 }
 
-// Reports whether a subnet serves the message and the client has a row in its prefix.
+// Reports whether a subnet serves the message and the client has a row at an address of it.
 fn is_known(question: &Question<'_>) -> bool
     ensures { let q = asking question.now in result ≡ known_in q (serving_subnet q) }
 {
     match question.subnet {
-        Some(subnet) => is_known_in(question, subnet),
+        Some(subnet) => knows_client(question, subnet),
         None => false,
     }
-}
-
-// Reports whether the client has a row in a subnet's prefix.
-fn is_known_in(question: &Question<'_>, subnet: &Subnet) -> bool
-    ensures { result ≡ known_in (asking question.now) (Some subnet.now) }
-{
-    knows_client(question, subnet)
 }
 
 // Reports whether there is an address and its row is the client's.

@@ -33,30 +33,34 @@ pub(crate) fn put_given(
         ++ configured_options message.now
         (given config.now subnet.now names.now message.now address)) }
 {
-    let mask = mask_of(subnet.prefix);
-    let mut values = subnet_values(alloc, subnet, message, address)?;
+    let part = config.member_with(subnet, address);
+    let mask = mask_of(part.prefix);
+    let mut values = subnet_values(alloc, subnet, part, message, address)?;
     put_class_options(&mut values, config.classes(), names)?;
     values.put_all(config.options())?;
     values.put(1, &mask, false)?;
     put_values(alloc, list, message, &values)
 }
 
-// Returns the values that a subnet gives to the client of a message at an address: those of the
-// client's reservation, of the pool and of the subnet.
+// Returns the values that a subnet gives to the client of a message at an address, where a part of its
+// shared network, or itself, has the address: those of the client's reservation, of the pool, of the
+// part and of the network.
 fn subnet_values<'a>(
     alloc: Global,
     subnet: &'a Subnet,
+    part: &'a Subnet,
     message: &Message<'_>,
     address: u32,
 ) -> Result<Values<'a>, AllocError>
     ensures { IfOk result (λ values. HasValues values.list.items
         (reserved_options message.now subnet.now ++ options_of_pool subnet.now.pools address
-        ++ subnet.now.options)) }
+        ++ part.now.options ++ part.now.shared)) }
 {
     let mut values = Values::new(alloc);
     values.put_all(reservation_options(message, subnet))?;
     values.put_all(pool_options(subnet, address))?;
-    values.put_all(subnet.options.as_slice())?;
+    values.put_all(part.options.as_slice())?;
+    values.put_all(part.shared.as_slice())?;
     Ok(values)
 }
 

@@ -1,6 +1,6 @@
 //! What is true of the rules, whatever the program does. Each law is the contract of a function
 //! that does nothing.
-ghost use Rattle.kd_lease.specs.Laws.{EndsAreFounded, EndsDecide, HeldHasNoRank, HeldIsNotGiven, HeldIsNotUsable, NakSetsNone, OneAnswer, OneChange, ServesByPrefix, SetsNow};
+ghost use Rattle.kd_lease.specs.Laws.{EndsAreFounded, EndsDecide, HeldHasNoRank, HeldIsNotGiven, HeldIsNotUsable, NakSetsNone, OneAnswer, OneChange, ServesAlone, ServesByPrefix, SetsNow, StandsAlone};
 
 /// A row that a message sets has the time of the message as its time of change.
 pub fn sets_now()
@@ -16,6 +16,16 @@ pub fn nak_sets_none()
 /// place, and whose class is held.
 pub fn serves_by_prefix()
     ensures { ServesByPrefix }
+{}
+
+/// Where no subnet is in a shared network, the first subnet that serves a message serves it alone.
+pub fn serves_alone()
+    ensures { ServesAlone }
+{}
+
+/// A subnet in no network has the addresses of its prefix, and gives its own options and mask.
+pub fn stands_alone()
+    ensures { StandsAlone }
 {}
 
 /// An address has no rank for a client if its row is not the client's and has not ended, whether it

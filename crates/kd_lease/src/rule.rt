@@ -16,9 +16,10 @@ pub enum Check {
     Choice,
     /// A subnet serves it.
     Subnet,
-    /// The subnet's prefix contains the address.
+    /// The subnet's prefix contains the address: in a shared network, that of one of its subnets.
     Prefix,
-    /// The client has a row in the subnet's prefix.
+    /// The client has a row in the subnet's prefix: in a shared network, in that of one of its
+    /// subnets.
     Client,
     /// The row of the address is the client's.
     Owner,

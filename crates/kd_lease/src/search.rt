@@ -1,16 +1,17 @@
-ghost use Rattle.std.specs.Prelude.{◌≡◌, ℕ, IsTrue, None, false, true};
+ghost use Rattle.std.specs.Prelude.{◌≡◌, None, Some};
+ghost use Rattle.std.specs.List.{list_any};
 ghost use Rattle.kd_lease.specs.Choice.{changed_in, set_later};
 ghost use Rattle.kd_lease.specs.Choice.Rank.{own, past};
-ghost use Rattle.kd_lease.specs.Rules.{asking, bound_state, client_has, held_at, leased_to, offered_to, offered_state, is_record};
+ghost use Rattle.kd_lease.specs.Rules.{asking, bound_state, client_has, held_at, known_in, leased_to, offered_to, offered_state};
 ghost use Rattle.kd_lease.specs.Ranks.{IsRanked};
-ghost use Rattle.kd_lease.specs.Seeking.{newer_of, past_at, sought_at};
+ghost use Rattle.kd_lease.specs.Seeking.{has_row_in, has_row_of, newer_of, past_at, sought_at};
 ghost use Rattle.kd_rows.specs.Table.{row_at};
 
 use crate::ages::newest;
 use crate::candidates::Choosing;
 use crate::fit::{fits_with, is_held_by, is_of, is_past};
 use crate::question::Question;
-use kd_config::Subnet;
+use kd_config::{Prefix, Subnet};
 use kd_rows::{Rows, State};
 
 // Which of a client's addresses are sought.
@@ -97,16 +98,43 @@ pub(crate) fn newest_past(choosing: &Choosing<'_>) -> Option<u32>
 }
 
 /// Reports whether the server knows the client in a subnet: the client has a row at an address in
-/// the subnet's prefix.
+/// its prefix, or in that of another subnet of its shared network.
 pub fn knows_client(question: &Question<'_>, subnet: &Subnet) -> bool
-    ensures some { IsTrue result → (b : ℕ) × (is_record (asking question.now) subnet.now b ≡ true) }
-    ensures none { result ≡ false → (b : ℕ) → is_record (asking question.now) subnet.now b ≡ false }
+    ensures { result ≡ known_in (asking question.now) (Some subnet.now) }
 {
-    let first = subnet.prefix.address;
-    let last = subnet.prefix.last();
+    if subnet.network == 0 {
+        is_found_in(question, subnet.prefix)
+    } else {
+        is_found_within(question, subnet.network)
+    }
+}
+
+// Reports whether the client has a row in the prefix of a subnet of the network with a number.
+fn is_found_within(question: &Question<'_>, number: u32) -> bool
+    ensures { let q = asking question.now in
+        result ≡ list_any (has_row_of q number) q.config.subnets }
+{
+    question
+        .config
+        .subnets()
+        .iter()
+        .any(|part| is_found_of(question, part, number))
+}
+
+// Reports whether a subnet is in the network with a number and the client has a row in its prefix.
+fn is_found_of(question: &Question<'_>, part: &Subnet, number: u32) -> bool
+    ensures { result ≡ has_row_of (asking question.now) number part.now }
+{
+    part.network == number && is_found_in(question, part.prefix)
+}
+
+// Reports whether the client has a row at an address in a prefix.
+fn is_found_in(question: &Question<'_>, prefix: Prefix) -> bool
+    ensures { result ≡ has_row_in (asking question.now) prefix }
+{
     question
         .rows
-        .next_of_client(question.client, first, last)
+        .next_of_client(question.client, prefix.address, prefix.last())
         .is_some()
 }
 

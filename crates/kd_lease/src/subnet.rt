@@ -2,19 +2,30 @@ ghost use Rattle.std.specs.Prelude.{◌≡◌, ◌==◌, option_copied, true};
 ghost use Rattle.std.specs.List.{find, list_any};
 ghost use Rattle.kd_config.specs.Apart.{has};
 ghost use Rattle.kd_lease.specs.Given.{options_of_pool};
-ghost use Rattle.kd_lease.specs.SubnetOf.{class_admits, has_place, is_by_relay, message_place, served_by, subnet_serving};
+ghost use Rattle.kd_lease.specs.SubnetOf.{class_admits, first_serving, has_place, is_by_relay, message_place, served_by, subnet_serving};
 
 use kd_classes::OptionData;
 use kd_config::{Config, Pool, Subnet};
 use kd_machine::Held;
 use kd_wire::{Bytes, Header};
 
-/// Returns the first subnet that serves a message with this header and with classes of these names:
-/// the message's relay is one of its own, or else, if no subnet has that, its prefix contains the
-/// place of the message; and the class that it requires, if any, is held.
+/// Returns the subnet in which a message with this header and with classes of these names is served:
+/// the first whose relays have that of the message, or else, if no subnet has it, whose prefix
+/// contains the place of the message; and the class that it requires, if any, is held. If it is in a
+/// shared network, that is served as one subnet.
 #[tactic(auto, unfolding(crate::specs::SubnetOf::subnet_serving))]
 pub fn subnet_of<'a>(config: &'a Config, names: &Held, header: &Header) -> Option<&'a Subnet>
     ensures { option_copied result ≡ subnet_serving config.now names.now header.now }
+{
+    match first_subnet(config, names, header) {
+        Some(subnet) => Some(config.home(subnet)),
+        None => None,
+    }
+}
+
+// Returns the first subnet that serves a message.
+fn first_subnet<'a>(config: &'a Config, names: &Held, header: &Header) -> Option<&'a Subnet>
+    ensures { option_copied result ≡ first_serving config.now names.now header.now }
 {
     let place = place_of(config.server(), header);
     let by_relay = comes_by_relay(config, names, header);
