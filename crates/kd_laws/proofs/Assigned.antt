@@ -1,15 +1,12 @@
--- The address that a reply assigns has 32 bits: it is in the prefix of a subnet of the configuration.
-use Rattle.std.proofs.Common.{◌≡◌, ℕ, ◌+◌, ◌^◌, ◌<◌, Bool, true, false, not, ◌&&◌, ◌||◌, nat_eq, nat_le, nat_lt, List, [], ◌∷◌, ◌++◌, Option, None, Some, ⊎_elim, ◌⊎◌, inl, inr, sym, subst, arith, is_none}
+-- The address that a reply assigns has 32 bits: it is of a pool or a reservation of the subnet in which
+-- the message is served.
+use Rattle.std.proofs.Common.{◌≡◌, ℕ, ◌^◌, ◌<◌, Bool, true, false, not, ◌&&◌, ◌||◌, nat_le, List, [], ◌∷◌, Option, None, Some, ⊎_elim, ◌⊎◌, inl, inr, sym, subst, arith, is_none}
 use Rattle.std.specs.Prelude.{IfSome, IsSomeAnd, option_map}
-use Rattle.std.specs.List.{AllByRecursion, list_all, list_any}
-use Rattle.std.proofs.lemmas.Bool.{and_parts, eqb-true, false≢true, leb-true, ltb-true, or_cases}
-use Rattle.kd_config.specs.Address.{has_address, prefix_size}
-use Rattle.kd_config.specs.Apart.{has, lie_apart}
-use Rattle.kd_config.specs.Rules.{all_obey, is_new, lies_within, may_all_reserve, may_reserve, may_stand, obeys, pool_ranges, reserved}
-use Rattle.kd_config.specs.Sound.{IsPrefix, IsSound, IsSubnet}
+use Rattle.std.specs.List.{AllByRecursion, list_any}
+use Rattle.std.proofs.lemmas.Bool.{and_parts, eqb-true, false≢true, leb-true, or_cases}
+use Rattle.kd_config.specs.Apart.{has}
+use Rattle.kd_config.specs.Sound.{IsSound}
 use Rattle.kd_config.specs.declared.pool.Pool.{Pool}
-use Rattle.kd_config.specs.declared.prefix.Prefix.{Prefix}
-use Rattle.kd_config.specs.declared.reservation.Identity.{Identity}
 use Rattle.kd_config.specs.declared.reservation.Reservation.{Reservation}
 use Rattle.kd_config.specs.declared.subnet.Subnet.{Subnet}
 use Rattle.kd_event.specs.declared.reason.Reason.{Reason}
@@ -19,7 +16,7 @@ use Rattle.kd_lease.specs.Laws.{EndsAreFounded, IsFounded}
 use Rattle.kd_lease.specs.Plan.{Outcome, ReplyOption}
 use Rattle.kd_lease.specs.Plan.Outcome.{planned, quiet}
 use Rattle.kd_lease.specs.Rules.{Does, IsReplyOf, IsSilent, Makes, client_has, declined_row, ending, released_row, renewable, rule_of, serving_subnet}
-use Rattle.kd_lease.specs.SubnetOf.{class_admits, is_by_relay, message_place, served_by, subnet_serving}
+use Rattle.kd_lease.specs.SubnetOf.{class_admits}
 use Rattle.kd_lease.specs.declared.plan.PlanKind.{PlanKind}
 use Rattle.kd_lease.specs.declared.plan.PlanKind.TheVariants as kinds
 use Rattle.kd_lease.specs.declared.rule.Ending.{Ending}
@@ -27,80 +24,31 @@ use Rattle.kd_lease.specs.declared.rule.Ending.TheVariants as ends
 use Rattle.kd_options.specs.declared.kind.MessageType.{MessageType}
 use Rattle.kd_rows.specs.Table.{row_at}
 use Rattle.kd_rows.specs.declared.row.Row.{Row}
-use Rattle.kd_laws.proofs.Told.{find-each}
+use Rattle.kd_laws.proofs.Homes.{Serves, ServesClient, ServesPool, find-each, serving_serves}
 
--- a subnet of a sound configuration: it obeys the rules after those before it
-record StandsIn (s : Subnet) : Type 0 where
-  sound : IsSubnet s
-  earlier : List ℕ
-  rules : obeys earlier s ≡ true
+-- an address of some pool of several has 32 bits
+pools_32 : (names : List (List ℕ)) (pools : List Pool) (a : ℕ) → AllByRecursion ServesPool pools → list_any (λ pool. pool_gives names pool a) pools ≡ true → a < 2 ^ 32
+pools_32 names [] a each inside = absurd (false≢true inside)
+pools_32 names (pool ∷ pools) a each inside =
+    ⊎_elim (λ here. one (and_parts (class_admits pool.class names) (has pool.range a) here).1) (pools_32 names pools a each.1) (or_cases (pool_gives names pool a) (list_any (λ p. pool_gives names p a) pools) inside) where
+    one : has pool.range a ≡ true → a < 2 ^ 32
+    one here =
+        let below = leb-true a pool.range.last (and_parts (nat_le pool.range.first a) (nat_le a pool.range.last) here).1 in
+        let last = each.0.last in
+        omega (arith, last, below)
 
--- all subnets are such, if they obey the rules one after another
-each_stands : (earlier : List ℕ) (subnets : List Subnet) → all_obey earlier subnets ≡ true → AllByRecursion IsSubnet subnets → AllByRecursion StandsIn subnets
-each_stands earlier [] all each = tt
-each_stands earlier (s ∷ subnets) all each =
-    let parts = and_parts (obeys earlier s) (all_obey (earlier ++ reserved s.reservations) subnets) all in
-    (record { sound = each.0; earlier = earlier; rules = parts.0 }, each_stands (earlier ++ reserved s.reservations) subnets parts.1 each.1)
-
--- all subnets of a sound configuration are such
-all_stand : (subnets : List Subnet) → may_stand subnets ≡ true → AllByRecursion IsSubnet subnets → AllByRecursion StandsIn subnets
-unfolding may_stand
-all_stand subnets together each =
-    each_stands [] subnets (and_parts (lie_apart (pool_ranges subnets)) (all_obey [] subnets) together).1 each
-
--- an address of a prefix has 32 bits
-within_32 : (prefix : Prefix) (a : ℕ) → IsPrefix prefix → has_address prefix a ≡ true → a < 2 ^ 32
-within_32 prefix a is inside =
-    let parts = and_parts (nat_le prefix.address a) (nat_lt a (prefix.address + prefix_size prefix.length)) inside in
-    let below = ltb-true a (prefix.address + prefix_size prefix.length) parts.1 in
-    omega (arith, below, is.within)
-
--- an address of a pool that lies within a prefix has 32 bits
-pool_32 : (prefix : Prefix) (pool : Pool) (a : ℕ) → IsPrefix prefix → lies_within prefix pool ≡ true → has pool.range a ≡ true → a < 2 ^ 32
-pool_32 prefix pool a is within inside =
-    let ends = and_parts (has_address prefix pool.range.first) (has_address prefix pool.range.last) within in
-    let last = within_32 prefix pool.range.last is ends.1 in
-    let parts = and_parts (nat_le pool.range.first a) (nat_le a pool.range.last) inside in
-    let below = leb-true a pool.range.last parts.1 in
-    omega (arith, last, below)
-
--- the same of some pool of several
-pools_32 : (names : List (List ℕ)) (prefix : Prefix) (pools : List Pool) (a : ℕ) → IsPrefix prefix → list_all (lies_within prefix) pools ≡ true → list_any (λ pool. pool_gives names pool a) pools ≡ true → a < 2 ^ 32
-pools_32 names prefix [] a is within inside = absurd (false≢true inside)
-pools_32 names prefix (pool ∷ pools) a is within inside =
-    let parts = and_parts (lies_within prefix pool) (list_all (lies_within prefix) pools) within in
-    ⊎_elim (λ here. pool_32 prefix pool a is parts.0 (and_parts (class_admits pool.class names) (has pool.range a) here).1) (λ later. pools_32 names prefix pools a is parts.1 later) (or_cases (pool_gives names pool a) (list_any (λ p. pool_gives names p a) pools) inside)
-
--- a reservation is of an address in the prefix
-InPrefix : Prefix → Reservation → Type 0
-InPrefix prefix r = has_address prefix r.address ≡ true
-
--- all reservations of a subnet are
-reserved_inside : (prefix : Prefix) (earlier : List ℕ) (clients : List Identity) (rs : List Reservation)
-    → may_all_reserve prefix earlier clients rs ≡ true → AllByRecursion (InPrefix prefix) rs
-unfolding InPrefix
-reserved_inside prefix earlier clients [] may = tt
-reserved_inside prefix earlier clients (r ∷ rs) may =
-    let more = may_all_reserve prefix (earlier ++ r.address ∷ []) (clients ++ r.identity ∷ []) rs in
-    let parts = and_parts (may_reserve prefix earlier r) (is_new clients r.identity && more) may in
-    let here = and_parts (has_address prefix r.address) (not (list_any (nat_eq r.address) earlier)) parts.0 in
-    (here.0, reserved_inside prefix (earlier ++ r.address ∷ []) (clients ++ r.identity ∷ []) rs (and_parts (is_new clients r.identity) more parts.1).1)
-
--- so it has 32 bits
-same_32 : (prefix : Prefix) (r : Option Reservation) (a : ℕ) → IsPrefix prefix → IfSome r (InPrefix prefix) → same_address (option_map (λ x. x.address) r) a ≡ true → a < 2 ^ 32
-unfolding InPrefix
-same_32 prefix None a is inside same = absurd (false≢true same)
-same_32 prefix (Some r) a is inside same = subst (λ (b : ℕ). b < 2 ^ 32) (eqb-true r.address a same) (within_32 prefix r.address is inside)
+-- so has an address that is reserved
+same_32 : (r : Option Reservation) (a : ℕ) → IfSome r ServesClient → same_address (option_map (λ x. x.address) r) a ≡ true → a < 2 ^ 32
+same_32 None a is same = absurd (false≢true same)
+same_32 (Some r) a is same = subst (λ (b : ℕ). b < 2 ^ 32) (eqb-true r.address a same) is.address
 
 -- an address that fits has 32 bits
-fitting_32 : (q : Asking) (s : Subnet) (a : ℕ) → StandsIn s → fitting_for q s a ≡ true → a < 2 ^ 32
-unfolding obeys
+fitting_32 : (q : Asking) (s : Subnet) (a : ℕ) → Serves s → fitting_for q s a ≡ true → a < 2 ^ 32
 fitting_32 q s a is fits =
-    let rules = and_parts (list_all (lies_within s.prefix) s.pools) (may_all_reserve s.prefix is.earlier [] s.reservations) is.rules in
-    let inside = find-each (InPrefix s.prefix) (λ r. is_from q.message r.identity) s.reservations (reserved_inside s.prefix is.earlier [] s.reservations rules.1) in
+    let client = find-each ServesClient (λ r. is_from q.message r.identity) s.reservations is.reservations in
     ⊎_elim
-    (λ open_one. pools_32 q.names s.prefix s.pools a is.sound.prefix rules.0 (and_parts (pooled q.names s a) (not (reserved_anywhere q.config a)) open_one).0)
-    (λ mine. same_32 s.prefix (client_reservation q.message s) a is.sound.prefix inside mine)
+    (λ open_one. pools_32 q.names s.pools a is.pools (and_parts (pooled q.names s a) (not (reserved_anywhere q.config a)) open_one).0)
+    (λ mine. same_32 (client_reservation q.message s) a client mine)
     (or_cases (pooled q.names s a && not (reserved_anywhere q.config a)) (same_address (address_reserved q.message s) a) fits)
 
 -- what holds if its second part does
@@ -140,12 +88,9 @@ reply_32 kind a (planned its b options) small h = omega (arith, small, h.1)
 reply_32 kind a (quiet reason) small h = absurd h
 
 module _ (founded : EndsAreFounded) (q : Asking) (sound : IsSound q.config) (set : Option Row) (outcome : Outcome) where
-  -- the subnet that serves the message stands in the configuration
-  serving : (s : Subnet) → serving_subnet q ≡ Some s → StandsIn s
-  unfolding subnet_serving
-  serving s is =
-      subst (λ (o : Option Subnet). IfSome o StandsIn) is
-      (find-each StandsIn (served_by (is_by_relay q.config q.names q.message.header) (message_place q.config.server q.message.header) q.names) q.config.subnets (all_stand q.config.subnets sound.subnets.together sound.subnets.each))
+  -- the subnet in which the message is served
+  serving : (s : Subnet) → serving_subnet q ≡ Some s → Serves s
+  serving s is = subst (λ (o : Option Subnet). IfSome o Serves) is (serving_serves q.config q.names q.message.header sound)
 
   -- an address that is offered
   offer_32 : (type : MessageType) (about : Option ℕ) → IsFounded q type about ends.Offer → Makes q about ends.Offer set outcome → Assigns32 outcome

@@ -1,6 +1,7 @@
 pub mod Across
 pub mod Assigned
 pub mod CallsMade
+pub mod Homes
 pub mod Joined
 pub mod LeasesKept
 pub mod LiveLeases

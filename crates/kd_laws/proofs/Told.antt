@@ -9,7 +9,8 @@ use Rattle.kd_classes.specs.declared.definition.ClassDef.{ClassDef}
 use Rattle.kd_classes.specs.declared.option_list.OptionData.{OptionData}
 use Rattle.kd_config.specs.Apart.{has}
 use Rattle.kd_config.specs.Configuration.{Configuration}
-use Rattle.kd_config.specs.Sound.{AreOptions, IsClass, IsOption, IsPool, IsReservation, IsSound, IsSubnet}
+use Rattle.kd_config.specs.Networks.{part_holding}
+use Rattle.kd_config.specs.Sound.{AreOptions, IsClass, IsOption, IsSound}
 use Rattle.kd_config.specs.declared.pool.Pool.{Pool}
 use Rattle.kd_config.specs.declared.reservation.Reservation.{Reservation}
 use Rattle.kd_config.specs.declared.subnet.Subnet.{Subnet}
@@ -21,7 +22,6 @@ use Rattle.kd_lease.specs.Plan.{ReplyOption}
 use Rattle.kd_lease.specs.ReplyOf.{obligatory, returned}
 use Rattle.kd_lease.specs.ReplyOptions.{configured_for, configured_in, plan_type, reply_options, times_in}
 use Rattle.kd_lease.specs.Rules.{serving_subnet}
-use Rattle.kd_lease.specs.SubnetOf.{is_by_relay, message_place, served_by, subnet_serving}
 use Rattle.kd_lease.specs.declared.plan.PlanKind.{PlanKind}
 use Rattle.kd_lease.specs.declared.plan.PlanKind.TheVariants as kinds
 use Rattle.kd_machine.specs.Parts.{is_held}
@@ -29,20 +29,8 @@ use Rattle.kd_options.proofs.ItemOptions.{each_gives}
 use Rattle.kd_options.specs.Joined.{value_of}
 use Rattle.kd_options.specs.Message.{Seen}
 use Rattle.kd_laws.proofs.Ordered.{AreOrdered, is_own, lacks, ordered-append, place, place-free, told, told-none, told-past, wider}
+use Rattle.kd_laws.proofs.Homes.{Serves, ServesClient, ServesPool, all_serve, each-append, find-each, part_serves, serving_serves}
 use Rattle.kd_laws.specs.Replies.{lifetime_told}
-
--- what holds of all elements of two lists holds of all of both together
-each-append : {A : Type 0} (P : A → Type 0) (xs ys : List A) → AllByRecursion P xs → AllByRecursion P ys → AllByRecursion P (xs ++ ys)
-each-append P [] ys first last = last
-each-append P (x ∷ xs) ys first last = (first.0, each-append P xs ys first.1 last)
-
--- what holds of all elements holds of the one that is found, if there is one
-pub find-each : {A : Type 0} (P : A → Type 0) (test : A → Bool) (xs : List A) → AllByRecursion P xs → IfSome (find test xs) P
-find-each P test [] each = tt
-find-each P test (x ∷ xs) each = by (test x) (find-each P test xs each.1) where
-  by : (b : Bool) → IfSome (find test xs) P → IfSome (if b then Some x else find test xs) P
-  by true rest = each.0
-  by false rest = rest
 
 -- an option that may be configured has none of the server's own codes
 abbrev IsFree : OptionData → Type 0
@@ -53,12 +41,12 @@ options_free : (options : List OptionData) → AreOptions options → AllByRecur
 options_free options are = each_gives IsOption IsFree (λ o is. is.free) options are.each
 
 -- those of a reservation, if there is one
-reservation_free : (reservation : Option Reservation) → IfSome reservation IsReservation → AllByRecursion IsFree (options_reserved reservation)
+reservation_free : (reservation : Option Reservation) → IfSome reservation ServesClient → AllByRecursion IsFree (options_reserved reservation)
 reservation_free None is = tt
 reservation_free (Some reservation) is = options_free reservation.options is.options
 
 -- those of a pool, if there is one
-pool_free : (pool : Option Pool) → IfSome pool IsPool → AllByRecursion IsFree (options_in pool)
+pool_free : (pool : Option Pool) → IfSome pool ServesPool → AllByRecursion IsFree (options_in pool)
 pool_free None is = tt
 pool_free (Some pool) is = options_free pool.options is.options
 
@@ -76,20 +64,24 @@ classes_free (class ∷ classes) names each =
     one_class (is_held class.name names) class (filter (λ c. is_held c.name names) classes) each.0.options (classes_free classes names each.1)
 
 -- all options that are given at an address of a subnet
-given_free : (config : Configuration) (s : Subnet) (names : List (List ℕ)) (m : Seen) (address : ℕ) → IsSound config → IsSubnet s → AllByRecursion IsFree (given config s names m address)
+given_free : (config : Configuration) (s : Subnet) (names : List (List ℕ)) (m : Seen) (address : ℕ) → IsSound config → Serves s → AllByRecursion IsFree (given config s names m address)
 unfolding given
 given_free config s names m address sound is =
     let own = reserved_options m s in
     let pool = options_of_pool s.pools address in
+    let part = part_holding config.subnets s address in
+    let is_there = part_serves config.subnets (all_serve config.subnets sound.subnets.together sound.subnets.each) s address is in
     let classes = class_options config.classes names in
     let is_client : Reservation → Bool = λ reservation. is_from m reservation.identity in
     let has_it : Pool → Bool = λ p. has p.range address in
-    let reserved = reservation_free (find is_client s.reservations) (find-each IsReservation is_client s.reservations is.reservations) in
-    let pooled = pool_free (find has_it s.pools) (find-each IsPool has_it s.pools is.pools) in
-    each-append IsFree (own ++ pool ++ s.options ++ classes ++ config.options) (mask_option s.prefix ∷ [])
-    (each-append IsFree (own ++ pool ++ s.options ++ classes) config.options
-    (each-append IsFree (own ++ pool ++ s.options) classes
-    (each-append IsFree (own ++ pool) s.options (each-append IsFree own pool reserved pooled) (options_free s.options is.options))
+    let reserved = reservation_free (find is_client s.reservations) (find-each ServesClient is_client s.reservations is.reservations) in
+    let pooled = pool_free (find has_it s.pools) (find-each ServesPool has_it s.pools is.pools) in
+    each-append IsFree (own ++ pool ++ part.options ++ part.shared ++ classes ++ config.options) (mask_option part.prefix ∷ [])
+    (each-append IsFree (own ++ pool ++ part.options ++ part.shared ++ classes) config.options
+    (each-append IsFree (own ++ pool ++ part.options ++ part.shared) classes
+    (each-append IsFree (own ++ pool ++ part.options) part.shared
+    (each-append IsFree (own ++ pool) part.options (each-append IsFree own pool reserved pooled) (options_free part.options is_there.options))
+    (options_free part.shared is_there.shared))
     (classes_free config.classes names sound.classes.each))
     (options_free config.options sound.options))
     (refl, tt)
@@ -148,12 +140,11 @@ from_front a b c d e f = simp append_assoc
 
 module _ (q : Asking) (sound : IsSound q.config) where
   -- the subnet that serves the message obeys the rules
-  serving_sound : IfSome (serving_subnet q) IsSubnet
-  unfolding subnet_serving
-  serving_sound = find-each IsSubnet (served_by (is_by_relay q.config q.names q.message.header) (message_place q.config.server q.message.header) q.names) q.config.subnets sound.subnets.each
+  serving_sound : IfSome (serving_subnet q) Serves
+  serving_sound = serving_serves q.config q.names q.message.header sound
 
   -- the configured options in a subnet, if there is one
-  in_subnet_ordered : (s : Option Subnet) (address : ℕ) → IfSome s IsSubnet → AreOrdered 6 261 (configured_in q s address)
+  in_subnet_ordered : (s : Option Subnet) (address : ℕ) → IfSome s Serves → AreOrdered 6 261 (configured_in q s address)
   in_subnet_ordered None address is = omega arith
   in_subnet_ordered (Some s) address is = configured_ordered q.message (given q.config s q.names q.message address) (given_free q.config s q.names q.message address sound is)
 

@@ -1,0 +1,177 @@
+-- The subnet in which a message is served, be it a subnet of the configuration or a shared network
+-- as one: its addresses have 32 bits, and its options are such as may be configured.
+use Rattle.std.proofs.Common.{◌≡◌, ℕ, zero, suc, ◌+◌, ◌-◌, ◌^◌, ◌<◌, Bool, true, false, ◌&&◌, ◌==◌, nat_eq, nat_le, nat_lt, not, List, [], ◌∷◌, ◌++◌, Option, None, Some, if◌then◌else◌, map, slice_get, arith}
+use Rattle.std.specs.Prelude.{IfSome, option_map}
+use Rattle.std.specs.List.{AllByRecursion, find, flat_map, list_all, list_any, range_with_len}
+use Rattle.std.proofs.lemmas.Bool.{and_parts, ltb-true}
+use Rattle.kd_config.specs.Address.{has_address, prefix_size}
+use Rattle.kd_config.specs.Apart.{lie_apart}
+use Rattle.kd_config.specs.Configuration.{Configuration}
+use Rattle.kd_config.specs.Networks.{home_of, is_part, network_at, network_count, network_of, networks_in, part_holding, pool_for, pools_within, reservations_within, value_or}
+use Rattle.kd_config.specs.Rules.{all_obey, is_new, lies_within, may_all_reserve, may_reserve, may_stand, obeys, pool_ranges, reserved}
+use Rattle.kd_config.specs.Sound.{AreOptions, IsPool, IsPrefix, IsReservation, IsSound, IsSubnet}
+use Rattle.kd_config.specs.declared.pool.Pool.{Pool}
+use Rattle.kd_config.specs.declared.prefix.Prefix.{Prefix}
+use Rattle.kd_config.specs.declared.reservation.Identity.{Identity}
+use Rattle.kd_config.specs.declared.reservation.Reservation.{Reservation}
+use Rattle.kd_config.specs.declared.subnet.Subnet.{Subnet}
+use Rattle.kd_lease.specs.SubnetOf.{first_serving, is_by_relay, message_place, served_by, subnet_serving}
+use Rattle.kd_wire.specs.declared.header.Header.{Header}
+
+-- what holds of all elements of two lists holds of all of both together
+pub each-append : {A : Type 0} (P : A → Type 0) (xs ys : List A) → AllByRecursion P xs → AllByRecursion P ys → AllByRecursion P (xs ++ ys)
+each-append P [] ys first last = last
+each-append P (x ∷ xs) ys first last = (first.0, each-append P xs ys first.1 last)
+
+-- what holds of all elements holds of the one that is found, if there is one
+pub find-each : {A : Type 0} (P : A → Type 0) (test : A → Bool) (xs : List A) → AllByRecursion P xs → IfSome (find test xs) P
+find-each P test [] each = tt
+find-each P test (x ∷ xs) each = by (test x) (find-each P test xs each.1) where
+  by : (b : Bool) → IfSome (find test xs) P → IfSome (if b then Some x else find test xs) P
+  by true rest = each.0
+  by false rest = rest
+
+-- and of the one at an index
+get-each : {A : Type 0} (P : A → Type 0) (xs : List A) (i : ℕ) → AllByRecursion P xs → IfSome (slice_get xs i) P
+get-each P [] i each = tt
+get-each P (x ∷ xs) zero each = each.0
+get-each P (x ∷ xs) (suc i) each = get-each P xs i each.1
+
+-- and of all that they are mapped to, if it does for each
+map-each : {A B : Type 0} (P : A → Type 0) (Q : B → Type 0) (f : A → B) → ((x : A) → P x → Q (f x)) → (xs : List A) → AllByRecursion P xs → AllByRecursion Q (map f xs)
+map-each P Q f step [] each = tt
+map-each P Q f step (x ∷ xs) each = (step x each.0, map-each P Q f step xs each.1)
+
+range-each : {B : Type 0} (Q : B → Type 0) (f : ℕ → B) → ((n : ℕ) → Q (f n)) → (a n : ℕ) → AllByRecursion Q (map f (range_with_len a n))
+range-each Q f step a zero = tt
+range-each Q f step a (suc n) = (step a, range-each Q f step (a + 1) n)
+
+flat-each : {A B : Type 0} (P : A → Type 0) (Q : B → Type 0) (f : A → List B) → ((x : A) → P x → AllByRecursion Q (f x)) → (xs : List A) → AllByRecursion P xs → AllByRecursion Q (flat_map f xs)
+flat-each P Q f step [] each = tt
+flat-each P Q f step (x ∷ xs) each = each-append Q (f x) (flat_map f xs) (step x each.0) (flat-each P Q f step xs each.1)
+
+-- a pool: its options may be configured, and its addresses have 32 bits
+pub record ServesPool (pool : Pool) : Type 0 where
+  pub options : AreOptions pool.options
+  pub last : pool.range.last < 2 ^ 32
+
+-- a reservation: likewise
+pub record ServesClient (reservation : Reservation) : Type 0 where
+  pub options : AreOptions reservation.options
+  pub address : reservation.address < 2 ^ 32
+
+-- a subnet in which messages are served
+pub record Serves (s : Subnet) : Type 0 where
+  pub pools : AllByRecursion ServesPool s.pools
+  pub reservations : AllByRecursion ServesClient s.reservations
+  pub options : AreOptions s.options
+  pub shared : AreOptions s.shared
+
+-- ---- subnets of a sound configuration
+
+-- an address of a prefix has 32 bits
+within_32 : (prefix : Prefix) (a : ℕ) → IsPrefix prefix → has_address prefix a ≡ true → a < 2 ^ 32
+within_32 prefix a is inside =
+    let parts = and_parts (nat_le prefix.address a) (nat_lt a (prefix.address + prefix_size prefix.length)) inside in
+    let below = ltb-true a (prefix.address + prefix_size prefix.length) parts.1 in
+    omega (arith, below, is.within)
+
+pools_serve : (prefix : Prefix) (pools : List Pool) → IsPrefix prefix → list_all (lies_within prefix) pools ≡ true → AllByRecursion IsPool pools → AllByRecursion ServesPool pools
+pools_serve prefix [] is within each = tt
+pools_serve prefix (pool ∷ pools) is within each =
+    let parts = and_parts (lies_within prefix pool) (list_all (lies_within prefix) pools) within in
+    let ends = and_parts (has_address prefix pool.range.first) (has_address prefix pool.range.last) parts.0 in
+    (record { options = each.0.options; last = within_32 prefix pool.range.last is ends.1 }, pools_serve prefix pools is parts.1 each.1)
+
+clients_serve : (prefix : Prefix) (earlier : List ℕ) (clients : List Identity) (rs : List Reservation)
+    → IsPrefix prefix → may_all_reserve prefix earlier clients rs ≡ true → AllByRecursion IsReservation rs → AllByRecursion ServesClient rs
+clients_serve prefix earlier clients [] is may each = tt
+clients_serve prefix earlier clients (r ∷ rs) is may each =
+    let more = may_all_reserve prefix (earlier ++ r.address ∷ []) (clients ++ r.identity ∷ []) rs in
+    let parts = and_parts (may_reserve prefix earlier r) (is_new clients r.identity && more) may in
+    let here = and_parts (has_address prefix r.address) (not (list_any (nat_eq r.address) earlier)) parts.0 in
+    (record { options = each.0.options; address = within_32 prefix r.address is here.0 },
+    clients_serve prefix (earlier ++ r.address ∷ []) (clients ++ r.identity ∷ []) rs is (and_parts (is_new clients r.identity) more parts.1).1 each.1)
+
+-- a subnet that obeys the rules serves
+obeying : (earlier : List ℕ) (s : Subnet) → IsSubnet s → obeys earlier s ≡ true → Serves s
+unfolding obeys
+obeying earlier s sound obey =
+    let rules = and_parts (list_all (lies_within s.prefix) s.pools) (may_all_reserve s.prefix earlier [] s.reservations) obey in
+    record {
+      pools = pools_serve s.prefix s.pools sound.prefix rules.0 sound.pools;
+      reservations = clients_serve s.prefix earlier [] s.reservations sound.prefix rules.1 sound.reservations;
+      options = sound.options;
+      shared = sound.shared;
+    }
+
+each_serves : (earlier : List ℕ) (subnets : List Subnet) → all_obey earlier subnets ≡ true → AllByRecursion IsSubnet subnets → AllByRecursion Serves subnets
+each_serves earlier [] all each = tt
+each_serves earlier (s ∷ subnets) all each =
+    let parts = and_parts (obeys earlier s) (all_obey (earlier ++ reserved s.reservations) subnets) all in
+    (obeying earlier s each.0 parts.0, each_serves (earlier ++ reserved s.reservations) subnets parts.1 each.1)
+
+pub all_serve : (subnets : List Subnet) → may_stand subnets ≡ true → AllByRecursion IsSubnet subnets → AllByRecursion Serves subnets
+unfolding may_stand
+all_serve subnets together each =
+    each_serves [] subnets (and_parts (lie_apart (pool_ranges subnets)) (all_obey [] subnets) together).1 each
+
+-- ---- networks
+
+no_options : AreOptions []
+no_options = record { few = omega arith; each = tt; own = tt }
+
+pools_of_part : (n : ℕ) (s : Subnet) → Serves s → AllByRecursion ServesPool (pools_within n s)
+pools_of_part n s is = by (s.network == n) where
+  by : (b : Bool) → AllByRecursion ServesPool (if b then map (pool_for s.class) s.pools else [])
+  by true = map-each ServesPool ServesPool (pool_for s.class) (λ pool it. record { options = it.options; last = it.last }) s.pools is.pools
+  by false = tt
+
+clients_of_part : (n : ℕ) (s : Subnet) → Serves s → AllByRecursion ServesClient (reservations_within n s)
+clients_of_part n s is = by (s.network == n) where
+  by : (b : Bool) → AllByRecursion ServesClient (if b then s.reservations else [])
+  by true = is.reservations
+  by false = tt
+
+-- a network of such subnets serves
+network_serves : (subnets : List Subnet) → AllByRecursion Serves subnets → (n : ℕ) → Serves (network_of subnets n)
+unfolding network_of
+network_serves subnets each n = record {
+  pools = flat-each Serves ServesPool (pools_within n) (pools_of_part n) subnets each;
+  reservations = flat-each Serves ServesClient (reservations_within n) (clients_of_part n) subnets each;
+  options = no_options;
+  shared = no_options;
+}
+
+at_serves : (subnets : List Subnet) → AllByRecursion Serves subnets → (n : ℕ) → IfSome (network_at subnets n) Serves
+at_serves subnets each n = by (n == 0) where
+  by : (b : Bool) → IfSome (if b then None else slice_get (networks_in subnets) (n - 1)) Serves
+  by true = tt
+  by false = get-each Serves (networks_in subnets) (n - 1) (range-each Serves (λ i. network_of subnets (i + 1)) (λ i. network_serves subnets each (i + 1)) 0 (network_count subnets))
+
+or_serves : (found : Option Subnet) (s : Subnet) → IfSome found Serves → Serves s → Serves (value_or found s)
+or_serves None s there is = is
+or_serves (Some t) s there is = there
+
+-- so does the subnet in which a client of one of them is served
+home_serves : (subnets : List Subnet) → AllByRecursion Serves subnets → (s : Subnet) → Serves s → Serves (home_of subnets s)
+home_serves subnets each s is = or_serves (network_at subnets s.network) s (at_serves subnets each s.network) is
+
+-- and the part of it that has an address
+pub part_serves : (subnets : List Subnet) → AllByRecursion Serves subnets → (s : Subnet) (a : ℕ) → Serves s → Serves (part_holding subnets s a)
+part_serves subnets each s a is = by (s.network == 0) where
+  by : (b : Bool) → Serves (if b then s else value_or (find (is_part s.network a) subnets) s)
+  by true = is
+  by false = or_serves (find (is_part s.network a) subnets) s (find-each Serves (is_part s.network a) subnets each) is
+
+homes : (subnets : List Subnet) → AllByRecursion Serves subnets → (found : Option Subnet) → IfSome found Serves → IfSome (option_map (home_of subnets) found) Serves
+homes subnets each None there = tt
+homes subnets each (Some s) there = home_serves subnets each s there
+
+-- the subnet in which a message is served
+pub serving_serves : (config : Configuration) (names : List (List ℕ)) (h : Header) → IsSound config → IfSome (subnet_serving config names h) Serves
+unfolding subnet_serving
+serving_serves config names h sound =
+    let each = all_serve config.subnets sound.subnets.together sound.subnets.each in
+    homes config.subnets each (first_serving config names h)
+    (find-each Serves (served_by (is_by_relay config names h) (message_place config.server h) names) config.subnets each)
