@@ -9,7 +9,7 @@ use Rattle.kd_lease.specs.SubnetOf.{served_by}
 use Rattle.kd_machine.specs.declared.run.Outcome.{Outcome}
 use Rattle.kd_options.specs.declared.item.Item.{Item}
 use Rattle.kd_explain.proofs.Testing.{left_at}
-use Rattle.kd_explain.specs.FoundLines.{tested_line, class_lines, first_outcome, passed_words, sought_line, sought_lines, unasked_line}
+use Rattle.kd_explain.specs.FoundLines.{tested_line, class_lines, first_outcome, later_line, passed_words, sought_line, sought_lines}
 use Rattle.kd_explain.specs.OutcomeLines.{AreOptionLines}
 
 -- two texts in sequence
@@ -102,4 +102,4 @@ module _ (by_relay : Bool) (place : ℕ) (names : List (List ℕ)) (s : Subnet) 
   pub passed_first : served_by by_relay place names s ≡ false
       → sought_lines by_relay place names (s ∷ subnets) ≡ sought_line s (passed_words by_relay place s) ++ sought_lines by_relay place names subnets
   unfolding sought_lines
-  passed_first is = ap (λ b. if b then sought_line s (codes " serves") ++ flat_map unasked_line subnets else sought_line s (passed_words by_relay place s) ++ sought_lines by_relay place names subnets) is
+  passed_first is = ap (λ b. if b then sought_line s (codes " serves") ++ flat_map (later_line s) subnets else sought_line s (passed_words by_relay place s) ++ sought_lines by_relay place names subnets) is

@@ -68,22 +68,26 @@ address_line None source = codes "check address: none\n"
 address_line (Some a) source =
     codes "check address: " ++ address_text a ++ codes " from " ++ source ++ codes "\n"
 
--- the prefix of a subnet, if there is one
+-- the shared network of a subnet, by its number, if it is in one
+abbrev pub network_word : ℕ → List ℕ
+network_word number = if number == 0 then [] else codes " and its network"
+
+-- the prefix of a subnet, and its shared network, if there is one
 abbrev pub served_word : Option Subnet → List ℕ
 served_word None = codes "none"
-served_word (Some s) = prefix_text s.prefix.address s.prefix.length
+served_word (Some s) = prefix_text s.prefix.address s.prefix.length ++ network_word s.network
 
 -- the subnet that serves the message
 abbrev pub served_line : Option Subnet → List ℕ
 served_line s = codes "check subnet: " ++ served_word s ++ codes "\n"
 
--- whether the subnet's prefix contains the address
+-- whether the subnet's prefix, or that of a subnet of its shared network, contains the address
 abbrev pub prefix_line : Bool → List ℕ
 prefix_line has_it =
     if has_it then codes "check prefix: has the address\n"
     else codes "check prefix: does not have the address\n"
 
--- whether the client has a row in the subnet's prefix
+-- whether the client has a row at an address of the subnet, or of its shared network
 abbrev pub known_line : Bool → List ℕ
 known_line is_known =
     if is_known then codes "check client: known in the subnet\n"

@@ -123,9 +123,17 @@ passed_words by_relay place s =
     then codes " passed over: the client is not in class " ++ class_word s.class
     else codes " passed over: " ++ address_text place ++ elsewhere_words by_relay
 
+-- a subnet is in the shared network of another one
+abbrev pub shares_network : Subnet → Subnet → Bool
+shares_network serving s = not (serving.network == 0) && s.network == serving.network
+
+-- what a subnet after the one that serves is to it
+abbrev pub later_words : Bool → List ℕ
+later_words shares = if shares then codes " in the same network" else codes " not asked"
+
 -- the line of a subnet after the one that serves
-abbrev pub unasked_line : Subnet → List ℕ
-unasked_line s = sought_line s (codes " not asked")
+abbrev pub later_line : Subnet → Subnet → List ℕ
+later_line serving s = sought_line s (later_words (shares_network serving s))
 
 -- the lines of subnets for a place and a message with these class names: those that are passed
 -- over, the first that serves, and those after it
@@ -133,7 +141,7 @@ unfoldable pub sought_lines : Bool → ℕ → List (List ℕ) → List Subnet �
 sought_lines by_relay place names [] = codes "subnet - none serves\n"
 sought_lines by_relay place names (s ∷ subnets) =
     if served_by by_relay place names s
-    then sought_line s (codes " serves") ++ flat_map unasked_line subnets
+    then sought_line s (codes " serves") ++ flat_map (later_line s) subnets
     else sought_line s (passed_words by_relay place s) ++ sought_lines by_relay place names subnets
 
 -- ---- its reservation

@@ -5,6 +5,7 @@ use Rattle.std.specs.List.{list_any}
 use Rattle.kd_classes.specs.declared.definition.ClassDef.{ClassDef}
 use Rattle.kd_classes.specs.declared.option_list.OptionData.{OptionData}
 use Rattle.kd_config.specs.Configuration.{Configuration}
+use Rattle.kd_config.specs.Networks.{part_holding}
 use Rattle.kd_config.specs.declared.subnet.Subnet.{Subnet}
 use Rattle.kd_lease.specs.Given.{class_options, mask_option, options_of_pool, reserved_options}
 use Rattle.kd_options.specs.Message.{Seen}
@@ -23,24 +24,28 @@ options_of_class classes names i = class_options (take 1 (drop i classes)) names
 abbrev pub class_has : List ClassDef → List (List ℕ) → ℕ → ℕ → Bool
 class_has classes names code i = has_code code (options_of_class classes names i)
 
--- the options of an origin at an address of a subnet, for a message with these class names
+-- the options of an origin at an address of a subnet, for a message with these class names; in a
+-- network, subnet, network and mask are those of the subnet in it that has the address
 abbrev pub options_from : Configuration → Subnet → List (List ℕ) → Seen → ℕ → Origin
     → List OptionData
 options_from config s names m a origins.Reservation = reserved_options m s
 options_from config s names m a origins.Pool = options_of_pool s.pools a
-options_from config s names m a origins.Subnet = s.options
+options_from config s names m a origins.Subnet = (part_holding config.subnets s a).options
+options_from config s names m a origins.Network = (part_holding config.subnets s a).shared
 options_from config s names m a (origins.Class i) = options_of_class config.classes names i
 options_from config s names m a origins.Global = config.options
-options_from config s names m a origins.Mask = mask_option s.prefix ∷ []
+options_from config s names m a origins.Mask =
+    mask_option (part_holding config.subnets s a).prefix ∷ []
 
 -- the position of an origin in the order of precedence, if there are `count` classes
 abbrev pub origin_place : ℕ → Origin → ℕ
 origin_place count origins.Reservation = 0
 origin_place count origins.Pool = 1
 origin_place count origins.Subnet = 2
-origin_place count (origins.Class i) = 3 + i
-origin_place count origins.Global = 3 + count
-origin_place count origins.Mask = 4 + count
+origin_place count origins.Network = 3
+origin_place count (origins.Class i) = 4 + i
+origin_place count origins.Global = 4 + count
+origin_place count origins.Mask = 5 + count
 
 -- an origin has the code, and no origin before it does; or none has it
 abbrev pub IsOrigin : Configuration → Subnet → List (List ℕ) → Seen → ℕ → ℕ → Option Origin

@@ -59,6 +59,7 @@ origin_word classes None = codes "-"
 origin_word classes (Some origins.Reservation) = codes "reservation"
 origin_word classes (Some origins.Pool) = codes "pool"
 origin_word classes (Some origins.Subnet) = codes "subnet"
+origin_word classes (Some origins.Network) = codes "network"
 origin_word classes (Some (origins.Class i)) = codes "class " ++ origin_class (slice_get classes i)
 origin_word classes (Some origins.Global) = codes "all"
 origin_word classes (Some origins.Mask) = codes "mask"

@@ -24,7 +24,7 @@ pub struct Explanation<'a> {
     pub outcomes: Vec<Option<Outcome>>,
     /// The names of the classes that the message is in.
     pub names: Held,
-    /// The subnet that serves it, if one does.
+    /// The subnet that serves it, if one does. A shared network serves as one subnet.
     pub subnet: Option<&'a Subnet>,
     /// The reservation for its client in that subnet, if there is one.
     pub reservation: Option<&'a Reservation>,

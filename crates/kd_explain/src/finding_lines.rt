@@ -5,7 +5,7 @@ ghost use Rattle.kd_lease.specs.Choice.{address_reserved, pooled, reserved_anywh
 ghost use Rattle.kd_lease.specs.Rules.{asking, passes, passes_in, serving_subnet};
 ghost use Rattle.kd_listing.specs.Leases.{word_of_live};
 ghost use Rattle.kd_text.specs.Text.{address_text};
-ghost use Rattle.kd_explain.specs.CheckLines.{address_line, address_source, fit_words, fits_line, free_line, held_line, is_inside, known_line, offer_line, owner_line};
+ghost use Rattle.kd_explain.specs.CheckLines.{address_line, address_source, fit_words, fits_line, free_line, held_line, is_inside, known_line, network_word, offer_line, owner_line};
 ghost use Rattle.kd_explain.specs.CheckLines.{place_words, pool_word, prefix_line, renewed_source, reserved_word, row_line_at, row_words};
 ghost use Rattle.kd_explain.specs.CheckLines.{sender_line, served_line, served_word, server_line, which_word};
 
@@ -135,7 +135,7 @@ fn source_of_renewed(message: &Message<'_>) -> &'static str
     }
 }
 
-// Prints the subnet that serves the message.
+// Prints the subnet that serves the message, and whether its shared network does.
 pub(crate) fn put_subnet_found(out: &mut String, subnet: Option<&Subnet>) -> Result<(), AllocError>
     ensures { OnOk result (string_bytes out.new
         ≡ string_bytes out.old ++ served_line (option_copied subnet.entry)) }
@@ -150,12 +150,29 @@ fn put_served(out: &mut String, subnet: Option<&Subnet>) -> Result<(), AllocErro
         ≡ string_bytes out.old ++ served_word (option_copied subnet.entry)) }
 {
     match subnet {
-        Some(subnet) => put_prefix(out, subnet.prefix.address, subnet.prefix.length),
+        Some(subnet) => put_served_by(out, subnet),
         None => out.push_str("none"),
     }
 }
 
-// Prints whether the subnet's prefix contains the address.
+// Prints the prefix of the subnet that serves the message, and its network if it is in one.
+fn put_served_by(out: &mut String, subnet: &Subnet) -> Result<(), AllocError>
+    ensures { OnOk result (string_bytes out.new
+        ≡ string_bytes out.old ++ served_word (Some subnet.now)) }
+{
+    put_prefix(out, subnet.prefix.address, subnet.prefix.length)?;
+    out.push_str(network_phrase(subnet.network))
+}
+
+// Returns what is said of the network with a number.
+fn network_phrase(number: u32) -> &'static str
+    ensures { result.now ≡ network_word number }
+{
+    if number == 0 { "" } else { " and its network" }
+}
+
+// Prints whether the subnet's prefix, or that of a subnet of its shared network, contains the
+// address.
 pub(crate) fn put_prefix_found(out: &mut String, has_it: bool) -> Result<(), AllocError>
     ensures { OnOk result (string_bytes out.new ≡ string_bytes out.old ++ prefix_line has_it) }
 {
@@ -166,7 +183,7 @@ pub(crate) fn put_prefix_found(out: &mut String, has_it: bool) -> Result<(), All
     }
 }
 
-// Prints whether the client has a row in the subnet's prefix.
+// Prints whether the client has a row at an address of the subnet, or of its shared network.
 pub(crate) fn put_client_found(out: &mut String, is_known: bool) -> Result<(), AllocError>
     ensures { OnOk result (string_bytes out.new ≡ string_bytes out.old ++ known_line is_known) }
 {

@@ -202,6 +202,7 @@ fn put_origin(
         Some(Origin::Reservation) => out.push_str("reservation"),
         Some(Origin::Pool) => out.push_str("pool"),
         Some(Origin::Subnet) => out.push_str("subnet"),
+        Some(Origin::Network) => out.push_str("network"),
         Some(Origin::Class(index)) => {
             out.push_str("class ")?;
             put_class(alloc, out, classes.def_at(index))

@@ -18,6 +18,8 @@ pub enum Origin {
     Pool,
     /// The subnet.
     Subnet,
+    /// The shared network of the subnet.
+    Network,
     /// The class at an index of the configuration; the client is a member of it.
     Class(usize),
     /// The options that go into all replies.
@@ -28,8 +30,9 @@ pub enum Origin {
 
 /// Returns where the option with a code comes from at an address, in host order, of a subnet, for
 /// the client of a message, which is a member of the classes with these names. This is the first of
-/// reservation, pool, subnet, classes in order, options of all replies and mask that has the code;
-/// `None` if none has it.
+/// reservation, pool, subnet, shared network, classes in order, options of all replies and mask
+/// that has the code; `None` if none has it. In a shared network, subnet and mask are those of the
+/// subnet that has the address.
 pub fn origin_of(
     config: &Config,
     subnet: &Subnet,
@@ -46,8 +49,12 @@ pub fn origin_of(
     if lists(pool_options(subnet, address), code) {
         return Some(Origin::Pool);
     }
-    if lists(subnet.options.as_slice(), code) {
+    let part = config.member_with(subnet, address);
+    if lists(part.options.as_slice(), code) {
         return Some(Origin::Subnet);
+    }
+    if lists(part.shared.as_slice(), code) {
+        return Some(Origin::Network);
     }
     if let Some(index) = class_with(config.classes(), names, code) {
         return Some(Origin::Class(index));

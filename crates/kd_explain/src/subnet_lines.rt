@@ -1,7 +1,8 @@
 ghost use Rattle.std.specs.Prelude.{◌≡◌, ◌++◌, OnOk, codes, option_copied, string_bytes};
 ghost use Rattle.std.specs.List.{flat_map};
 ghost use Rattle.kd_lease.specs.SubnetOf.{is_by_relay, message_place};
-ghost use Rattle.kd_explain.specs.FoundLines.{class_word, elsewhere_words, key_word, passed_words, place_line, place_word, reservation_line, reserved_line, sought_line, sought_lines, unasked_line};
+ghost use Rattle.kd_explain.specs.FoundLines.{class_word, elsewhere_words, key_word, later_line, later_words, passed_words, place_line, place_word};
+ghost use Rattle.kd_explain.specs.FoundLines.{reservation_line, reserved_line, shares_network, sought_line, sought_lines};
 
 use crate::text::Scene;
 use crate::words::put_name;
@@ -85,7 +86,7 @@ fn put_sought(
     while let [subnet, rest @ ..] = left {
         if serves(sought.by_relay, sought.place, sought.names, subnet) {
             put_serving(out, subnet)?;
-            return put_unasked(out, rest);
+            return put_later(out, subnet, rest);
         }
         put_passed(alloc, out, sought, subnet)?;
         left = rest;
@@ -106,24 +107,44 @@ fn put_serving(out: &mut String, subnet: &Subnet) -> Result<(), AllocError>
 }
 
 // Prints the lines of the subnets after the one that serves.
-fn put_unasked(out: &mut String, subnets: &[Subnet]) -> Result<(), AllocError>
+fn put_later(out: &mut String, serving: &Subnet, subnets: &[Subnet]) -> Result<(), AllocError>
     ensures { OnOk result (string_bytes out.new
-        ≡ string_bytes out.old ++ flat_map unasked_line subnets.now) }
+        ≡ string_bytes out.old ++ flat_map (later_line serving.now) subnets.now) }
 {
     for subnet in subnets {
-        put_one_unasked(out, subnet)?;
+        put_one_later(out, serving, subnet)?;
     }
     Ok(())
 }
 
+// Prints the line of a subnet after the one that serves.
 #[tactic(auto, unfolding(crate::specs::FoundLines::sought_line))]
-fn put_one_unasked(out: &mut String, subnet: &Subnet) -> Result<(), AllocError>
-    ensures { OnOk result (string_bytes out.new ≡ string_bytes out.old ++ unasked_line subnet.now) }
+fn put_one_later(out: &mut String, serving: &Subnet, subnet: &Subnet) -> Result<(), AllocError>
+    ensures { OnOk result (string_bytes out.new
+        ≡ string_bytes out.old ++ later_line serving.now subnet.now) }
 {
     out.push_str("subnet ")?;
     put_prefix(out, subnet.prefix.address, subnet.prefix.length)?;
-    out.push_str(" not asked")?;
+    out.push_str(later_phrase(is_in_network(serving, subnet)))?;
     out.push_str("\n")
+}
+
+// Reports whether a subnet is in the shared network of the one that serves.
+fn is_in_network(serving: &Subnet, subnet: &Subnet) -> bool
+    ensures { result ≡ shares_network serving.now subnet.now }
+{
+    serving.network != 0 && subnet.network == serving.network
+}
+
+// Returns what is said of a subnet after the one that serves.
+fn later_phrase(shares: bool) -> &'static str
+    ensures { result.now ≡ later_words shares }
+{
+    if shares {
+        " in the same network"
+    } else {
+        " not asked"
+    }
 }
 
 #[tactic(auto, unfolding(crate::specs::FoundLines::sought_line))]

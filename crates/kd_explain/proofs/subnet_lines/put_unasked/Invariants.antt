@@ -1,8 +1,0 @@
-use Rattle.std.proofs.Common.{◌≡◌, ◌++◌, take}
-use Rattle.std.specs.Prelude.{string_bytes}
-use Rattle.std.specs.List.{flat_map}
-use Rattle.kd_explain.specs.FoundLines.{unasked_line}
-use Rattle.kd_explain.proofs.subnet_lines.put_unasked.Given as goal
-
-abbrev pub invariant-loop-subnet : goal.invariant-loop-subnet
-invariant-loop-subnet l = string_bytes l.out ≡ string_bytes l.initial.out ++ flat_map unasked_line (take l.subnet-index l.subnets)
