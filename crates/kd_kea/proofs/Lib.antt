@@ -14,6 +14,8 @@ pub mod Sounds
 pub mod SoundNames
 pub mod Parts
 pub mod SoundParts
+pub mod SoundSubnets
+pub mod SoundNetworks
 pub mod SoundKea
 pub mod Whole
 pub mod Noted

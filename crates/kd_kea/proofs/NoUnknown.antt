@@ -1,10 +1,12 @@
 -- A text that describes settings has no key that is refused.
-use Rattle.std.proofs.Common.{◌≡◌, ℕ, ◌+◌, Bool, true, false, List, [], ◌∷◌, ◌++◌, codes, Option, Some, None, refl, sym, ap, ◌∙◌, subst, true≢false}
+use Rattle.std.proofs.Common.{◌≡◌, ℕ, ◌+◌, Bool, true, false, List, [], ◌∷◌, ◌++◌, map, codes, Option, Some, None, refl, sym, ap, ◌∙◌, subst, true≢false}
+use Rattle.std.specs.List.{list_any}
 use Rattle.std.specs.Prelude.{◌||◌, if◌then◌else◌, decimal, is_some, option_map}
 use Rattle.std.proofs.lemmas.List.Folds.{list_any-append}
 use Rattle.serde_json.specs.Data.{Data, Items, no_items, item}
 use Rattle.serde_json.specs.Find.{as_array, as_object, as_str, get}
 use Rattle.kd_config.proofs.Tests.{some_is}
+use Rattle.kd_config.specs.Address.{has_address}
 use Rattle.kd_config.specs.declared.prefix.Prefix.{Prefix}
 use Rattle.kd_config.specs.declared.subnet.Subnet.{Subnet}
 use Rattle.kd_classes.specs.declared.option_list.OptionData.{OptionData}
@@ -20,8 +22,9 @@ use Rattle.kd_kea.specs.Class.{kea_class_options, kea_class}
 use Rattle.kd_kea.specs.Definitions.{are_apart, kea_definition, kea_definitions, kea_known, standard_records, usual_vendor}
 use Rattle.kd_kea.specs.Kea.{kea_settings}
 use Rattle.kd_kea.specs.HostName.{has_bare_names, host_name, host_options, may_be_named, server_has_bare_names}
-use Rattle.kd_kea.specs.Keys.{flag, keys_are_read, served, whole}
-use Rattle.kd_kea.specs.Notes.{KeyNote, ObjectNotes, above_by, around_of, beside_note, class_notes, data_notes, definition_note, definition_notes, each_described, flag_note, have_refused, host_notes, is_not_failed, is_served_if_given, item_notes, items_of, kea_below, kea_beside, kea_notes, kea_value, usable_definitions, list_notes, listed_notes, lists_by, name_notes, note_on_name, note_unless, notes_at, notes_of_each, number_note, object_notes, option_notes, or_wrong, own_notes, pool_notes, relay_notes, right_definitions, root_notes, server_lists, server_notes, server_times, server_values, subnet_lists, subnet_notes, subnet_own, subnet_values, text_note, all_times, value_notes, with_first, required_notes}
+use Rattle.kd_kea.specs.Keys.{keys_are_read}
+use Rattle.kd_kea.specs.Notes.{KeyNote, ObjectNotes, above_by, all_subnet_notes, around_members, around_of, beside_note, calculated_notes, inside_notes, kea_inside, network_below, network_lists, network_notes, network_own, network_values, outside_in, prefix_given, repeated_notes, repeated_shares, class_notes, data_notes, definition_note, definition_notes, each_described, flag_note, have_refused, host_notes, is_not_failed, is_served_if_given, item_notes, items_of, kea_below, kea_beside, kea_notes, kea_value, usable_definitions, list_notes, listed_notes, lists_by, name_notes, note_on_name, note_unless, notes_at, notes_of_each, number_note, object_notes, option_notes, or_wrong, own_notes, pool_notes, relay_notes, right_definitions, root_notes, server_lists, server_notes, server_times, server_values, subnet_lists, subnet_notes, subnet_own, subnet_values, text_note, all_times, value_notes, with_first, required_notes}
+use Rattle.kd_kea.specs.Network.{above_members, as_member, has_network_form, is_in_one_of, is_interface_of, kea_common, kea_member, kea_network, kea_subnets, may_be_of, one_class}
 use Rattle.kd_kea.specs.Options.{is_served_space, kea_entry, kea_options, server_address}
 use Rattle.kd_kea.specs.Parts.{parts_of_all}
 use Rattle.kd_kea.specs.Pool.{kea_pool, kea_range, may_require}
@@ -29,15 +32,16 @@ use Rattle.kd_kea.specs.Reservation.{kea_reservation}
 use Rattle.kd_kea.specs.Settings.{has_server_form, kea_dhcp4, kea_root, kea_settings_with}
 use Rattle.kd_kea.specs.Relay.{kea_relay, relays_of}
 use Rattle.kd_kea.specs.Subnet.{has_subnet_form, is_at_server, kea_subnet, kea_subnet_with, stand_beside}
-use Rattle.kd_kea.specs.Tables.{class_keys, data_keys, definition_keys, host_keys, pool_keys, relay_keys, root_keys, server_keys, subnet_keys}
+use Rattle.kd_kea.specs.Tables.{class_keys, data_keys, definition_keys, host_keys, network_keys, pool_keys, relay_keys, root_keys, server_keys, subnet_keys}
 use Rattle.kd_kea.specs.Times.{has_usual_shares, kea_times, repeats_times, shares_given}
 use Rattle.kd_kea.specs.Values.{flag_given, flag_or, is_whole_if_given, text_otherwise, unless_empty}
 use Rattle.kd_kea.specs.declared.notes.NoteKind.TheVariants.{Unknown, Wrong}
 use Rattle.kd_kea.specs.declared.notes.around.Around.{Around}
 use Rattle.kd_kea.specs.declared.objects.definition.Definition.{Definition}
+use Rattle.kd_kea.specs.declared.objects.network.Common.{Common}
 use Rattle.kd_kea.specs.declared.objects.subnet.Above.{Above}
 use Rattle.kd_wire.specs.Steps.{◌>>=◌}
-use Rattle.kd_kea.proofs.NoneWrong.{none_in_both, own_pass, unless_none, right, flag_right, wrong_none, object_none, is_object, form_of, server_values_pass, bind_is, server_times_pass, Fits, subnet_values_pass, address_known, times_known, around_fits, above_known, below_known}
+use Rattle.kd_kea.proofs.NoneWrong.{none_in_both, own_pass, unless_none, right, flag_right, wrong_none, object_none, is_object, form_of, server_values_pass, bind_is, server_times_pass, Fits, subnet_values_pass, address_known, times_known, around_fits, above_known, below_known, must_hold, repeated, repeated_pass, calculated_pass, shares_known}
 
 -- ---- definitions, each by itself
 
@@ -324,21 +328,199 @@ subnet_pass above around fits known d subnet path e =
     lists.hosts)
     lists.relay))
 
+-- ---- networks
+
+-- what a value with the form of a network has
+record HasNetworkForm (above : Above) (d : Data) : Type 0 where
+  keys : keys_are_read network_keys d ≡ true
+  times : repeats_times above.calculated above.shares above.times d ≡ Some tt
+  name : is_some (get (codes "name") d >>= as_str) ≡ true
+
+network_form : (above : Above) (d : Data) → has_network_form above d ≡ Some tt → HasNetworkForm above d
+unfolding has_network_form
+network_form above d e =
+    let keys = passed (keys_are_read network_keys d) _ tt e in
+    let times = came_from (repeats_times above.calculated above.shares above.times d) _ tt keys.1 in
+    record { keys = keys.0; times = times.is; name = must_hold (is_some (get (codes "name") d >>= as_str)) times.gives }
+
+-- the prefix of a member is the one that its value gives
+member_prefix : (above : Above) (known : List Definition) (common : Common) (d : Data) (member : Subnet) → kea_member above known common d ≡ Some member → prefix_given d ≡ Some member.prefix
+unfolding kea_member as_member kea_subnet kea_subnet_with
+member_prefix above known common d member e =
+    let subnet = came_from (kea_subnet above known d) _ member e in
+    let form = came_from (has_subnet_form above d) _ subnet.first subnet.is in
+    let prefix = came_from (prefix_given d) _ subnet.first form.gives in
+    let link = passed (is_at_server above.server prefix.first (get (codes "interface") d)) _ subnet.first prefix.gives in
+    let class = came_from (text_if_given (get (codes "client-class") d)) _ subnet.first link.1 in
+    let outside = came_from (flag_or above.outside (get (codes "reservations-out-of-pool") d)) _ subnet.first class.gives in
+    let bare = has_bare_names above.bare d in
+    let relays = came_from (relays_of (get (codes "relay") d)) _ subnet.first outside.gives in
+    let pools = came_from (list_of 64 (kea_pool known) (get (codes "pools") d) >>= parts_of_all) _ subnet.first relays.gives in
+    let hosts = came_from (list_of 4096 (kea_reservation known bare) (get (codes "reservations") d)) _ subnet.first pools.gives in
+    let beside = passed (stand_beside outside.first pools.first hosts.first) _ subnet.first hosts.gives in
+    let options = came_from (kea_options false known (get (codes "option-data") d)) _ subnet.first beside.1 in
+    let own = came_from (one_class subnet.first.class common.class) _ member subnet.gives in
+    let may = passed (may_be_of own.first subnet.first.pools subnet.first.reservations) _ member own.gives in
+    prefix.is ∙ (ap (λ (s : Subnet). Some s.prefix) (some_is _ subnet.first options.gives) ∙ ap (λ (s : Subnet). Some s.prefix) (some_is _ member may.1))
+
+member_prefixes : (above : Above) (known : List Definition) (common : Common) (items : Items) (members : List Subnet) → all_of (kea_member above known common) items ≡ Some members → all_of prefix_given items ≡ Some (map (λ (s : Subnet). s.prefix) members)
+member_prefixes above known common no_items members e = ap (λ (xs : List Subnet). Some (map (λ (s : Subnet). s.prefix) xs)) (some_is [] members e)
+member_prefixes above known common (item d ds) members e =
+    let first = came_from (kea_member above known common d) _ members e in
+    let rest = came_from (all_of (kea_member above known common) ds) _ members first.gives in
+    let prefixes = map (λ (s : Subnet). s.prefix) rest.first in
+    bind_is (prefix_given d) first.first.prefix _ _ (member_prefix above known common d first.first first.is)
+    (bind_is (all_of prefix_given ds) prefixes _ _ (member_prefixes above known common ds rest.first rest.is)
+    (ap (λ (xs : List Subnet). Some (map (λ (s : Subnet). s.prefix) xs)) (some_is (first.first ∷ rest.first) members rest.gives)))
+
+listed_prefixes : (above : Above) (known : List Definition) (common : Common) (value : Option Data) (members : List Subnet) → list_of 64 (kea_member above known common) value ≡ Some members → list_of 64 prefix_given value ≡ Some (map (λ (s : Subnet). s.prefix) members)
+unfolding list_of
+listed_prefixes above known common value members e =
+    let items = came_from (items_or_none 64 value) _ members e in
+    bind_is (items_or_none 64 value) items.first _ _ items.is (member_prefixes above known common items.first members items.gives)
+
+-- an address is in one of the members exactly if it is in one of their prefixes
+any_prefix : (server : ℕ) (members : List Subnet) → list_any (λ prefix. has_address prefix server) (map (λ (s : Subnet). s.prefix) members) ≡ is_in_one_of members server
+any_prefix server [] = refl
+any_prefix server (s ∷ members) = ap (λ (b : Bool). has_address s.prefix server || b) (any_prefix server members)
+
+inside_pass_by : (server : ℕ) (path : List ℕ) (d : Data) (prefixes : List Prefix) → list_of 64 prefix_given (get (codes "subnet4") d) ≡ Some prefixes → is_interface_of (list_any (λ prefix. has_address prefix server) prefixes) (get (codes "interface") d) ≡ true
+    → have_refused (inside_notes (Some server) path d) ≡ false
+unfolding kea_inside
+inside_pass_by server path d prefixes e f =
+    let here : kea_inside server d ≡ Some true = bind_is (list_of 64 prefix_given (get (codes "subnet4") d)) prefixes _ true e (ap Some f) in
+    unless_none (is_not_failed (kea_inside server d)) Unknown path (codes "interface") (ap is_not_failed here)
+
+inside_pass : (given : Option ℕ) (server : ℕ) (inner : Above) (known : List Definition) (common : Common) (path : List ℕ) (d : Data) (members : List Subnet) → given ≡ Some server → list_of 64 (kea_member inner known common) (get (codes "subnet4") d) ≡ Some members → is_interface_of (is_in_one_of members server) (get (codes "interface") d) ≡ true
+    → have_refused (inside_notes given path d) ≡ false
+inside_pass given server inner known common path d members e f g =
+    let prefixes = map (λ (s : Subnet). s.prefix) members in
+    let inside = ap (λ (b : Bool). is_interface_of b (get (codes "interface") d)) (any_prefix server members) ∙ g in
+    subst (λ (o : Option ℕ). have_refused (inside_notes o path d) ≡ false) (sym e)
+    (inside_pass_by server path d prefixes (listed_prefixes inner known common (get (codes "subnet4") d) members f) inside)
+
+network_values_pass : (above : Above) (around : Around) → Fits above around → (path : List ℕ) (d : Data) → repeats_times above.calculated above.shares above.times d ≡ Some tt → have_refused (inside_notes around.address path d) ≡ false
+    → have_refused (network_values around path d) ≡ false
+unfolding network_values
+network_values_pass above around fits path d e inside =
+    let times = repeated above.calculated above.shares above.times d e in
+    let of_times = repeated_notes around path d in
+    let of_calculated = calculated_notes around.calculated path d in
+    let of_shares = repeated_shares around.calculated around.shares path d in
+    none_in_both (of_times ++ of_calculated ++ of_shares) (inside_notes around.address path d)
+    (none_in_both (of_times ++ of_calculated) of_shares
+    (none_in_both of_times of_calculated (repeated_pass above around fits path d times)
+    (calculated_pass around.calculated above.calculated path d fits.calculated times.rounded))
+    (shares_known around.calculated above.calculated around.shares above.shares path d fits.calculated fits.shares times.shares))
+    inside
+
+network_own_pass : (path : List ℕ) (d : Data) (other outside : Bool) → is_some (get (codes "name") d >>= as_str) ≡ true → is_some (text_if_given (get (codes "client-class") d)) ≡ true → flag_or other (get (codes "reservations-out-of-pool") d) ≡ Some outside
+    → have_refused (network_own path d) ≡ false
+unfolding network_own
+network_own_pass path d other outside e f g =
+    let of_name = note_unless (is_some (get (codes "name") d >>= as_str)) Wrong path (codes "name") in
+    let of_class = text_note (codes "client-class") path d in
+    let of_outside = flag_note (codes "reservations-out-of-pool") path d in
+    none_in_both (of_name ++ of_class) of_outside
+    (none_in_both of_name of_class
+    (unless_none (is_some (get (codes "name") d >>= as_str)) Wrong path (codes "name") e)
+    (unless_none (is_some (text_if_given (get (codes "client-class") d))) Wrong path (codes "client-class") f))
+    (unless_none (is_some (flag_given (get (codes "reservations-out-of-pool") d))) Wrong path (codes "reservations-out-of-pool") (flag_right other (get (codes "reservations-out-of-pool") d) outside g))
+
+-- what holds above the members of a network is known of each part
+members_fit : (above : Above) (around : Around) → Fits above around → (d : Data) (outside : Bool) → flag_or above.outside (get (codes "reservations-out-of-pool") d) ≡ Some outside → Fits (above_members above outside d) (around_members around d)
+unfolding around_members outside_in
+members_fit above around fits d outside e =
+    record {
+      address = fits.address;
+      times = fits.times;
+      outside = bind_is around.outside above.outside (λ (b : Bool). flag_or b (get (codes "reservations-out-of-pool") d)) outside fits.outside e;
+      bare = ap (λ (b : Bool). has_bare_names b d) fits.bare;
+      calculated = fits.calculated;
+      shares = fits.shares;
+      lifetime = fits.lifetime;
+      renew = fits.renew;
+      rebind = fits.rebind;
+    }
+
+member_pass : (above : Above) (around : Around) → Fits above around → (known : List Definition) (common : Common) → NoneRefused (kea_member above known common) (subnet_notes around known)
+unfolding kea_member
+member_pass above around fits known common d member path e =
+    let subnet = came_from (kea_subnet above known d) _ member e in
+    subnet_pass above around fits known d subnet.first path subnet.is
+
+-- what the members of a network have in common
+record CommonPass (known : List Definition) (path : List ℕ) (d : Data) : Type 0 where
+  relay : have_refused (notes_at relay_notes path (codes "relay") d) ≡ false
+  class : is_some (text_if_given (get (codes "client-class") d)) ≡ true
+  options : have_refused (option_notes false known path d) ≡ false
+
+common_pass : (known : List Definition) (path : List ℕ) (d : Data) (common : Common) → kea_common known d ≡ Some common → CommonPass known path d
+unfolding kea_common
+common_pass known path d common e =
+    let relays = came_from (relays_of (get (codes "relay") d)) _ common e in
+    let class = came_from (text_if_given (get (codes "client-class") d)) _ common relays.gives in
+    let options = came_from (kea_options false known (get (codes "option-data") d)) _ common class.gives in
+    record {
+      relay = relay_pass (path_below path (codes "relay")) (get (codes "relay") d) relays.first relays.is;
+      class = ap is_some class.is;
+      options = options_pass false known d options.first path options.is;
+    }
+
+network_known : (given : Option Above) (above : Above) (known : List Definition) (d : Data) (members : List Subnet) → given ≡ Some above → kea_network above known d ≡ Some members → network_below given known d ≡ Some tt
+network_known given above known d members e f =
+    subst (λ (o : Option Above). network_below o known d ≡ Some tt) (sym e) (bind_is (kea_network above known d) members _ tt f refl)
+
+network_pass : (above : Above) (around : Around) → Fits above around → (known : List Definition) → NoneRefused (kea_network above known) (network_notes around known)
+unfolding kea_network network_notes network_lists
+network_pass above around fits known d members path e =
+    let given = came_from (has_network_form above d) _ members e in
+    let form = network_form above d given.is in
+    let common = came_from (kea_common known d) _ members given.gives in
+    let outside = came_from (flag_or above.outside (get (codes "reservations-out-of-pool") d)) _ members common.gives in
+    let inner = above_members above outside.first d in
+    let inner_around = around_members around d in
+    let read = came_from (list_of 64 (kea_member inner known common.first) (get (codes "subnet4") d)) _ members outside.gives in
+    let here = passed (is_interface_of (is_in_one_of read.first above.server) (get (codes "interface") d)) _ members read.gives in
+    let shared = common_pass known path d common.first common.is in
+    let keyed = own_notes network_keys path d in
+    let values = network_values around path d in
+    let own = network_own path d in
+    let options = option_notes false known path d in
+    let listed = listed_notes 64 (subnet_notes inner_around known) (codes "subnet4") path d in
+    let relay = notes_at relay_notes path (codes "relay") d in
+    let inside = inside_pass around.address above.server inner known common.first path d read.first fits.address read.is here.0 in
+    let each = member_pass inner inner_around (members_fit above around fits d outside.first outside.is) known common.first in
+    object_none (network_below (above_by around) known d) tt path d (keyed ++ values ++ own ++ (options ++ listed ++ relay))
+    (network_known (above_by around) above known d members (above_known above around fits) e) (is_object network_keys d form.keys)
+    (none_in_both (keyed ++ values ++ own) (options ++ listed ++ relay)
+    (none_in_both (keyed ++ values) own
+    (none_in_both keyed values (own_pass network_keys path d form.keys) (network_values_pass above around fits path d form.times inside))
+    (network_own_pass path d above.outside outside.first form.name shared.class outside.is))
+    (none_in_both (options ++ listed) relay
+    (none_in_both options listed shared.options
+    (listed_pass 64 (kea_member inner known common.first) (subnet_notes inner_around known) each (codes "subnet4") path d read.first read.is))
+    shared.relay))
+
 known_pass : (d : Data) (known : List Definition) (path : List ℕ) → kea_known (get (codes "option-def") d) ≡ Some known → have_refused (definition_notes false path d) ≡ false
 unfolding kea_known
 known_pass d known path e =
     let own = came_from (kea_definitions false (get (codes "option-def") d)) _ known e in
     definitions_pass false d own.first path own.is
 
--- the classes and the subnets
+-- the classes, and the networks and the subnets
 lists_pass : (known : List Definition) (options : List OptionData) (above : Above) (around : Around) → Fits above around → (path : List ℕ) (d : Data) (settings : Settings) → kea_settings_with known options above d ≡ Some settings
-    → (have_refused (listed_notes 256 (class_notes known) (codes "client-classes") path d) ≡ false) × (have_refused (listed_notes 256 (subnet_notes around known) (codes "subnet4") path d) ≡ false)
-unfolding kea_settings_with
+    → (have_refused (listed_notes 256 (class_notes known) (codes "client-classes") path d) ≡ false) × (have_refused (all_subnet_notes around known path d) ≡ false)
+unfolding kea_settings_with kea_subnets all_subnet_notes
 lists_pass known options above around fits path d settings e =
     let classes = came_from (list_of 256 (kea_class known) (get (codes "client-classes") d)) _ settings e in
-    let subnets = came_from (list_of 256 (kea_subnet above known) (get (codes "subnet4") d)) _ settings classes.gives in (
+    let subnets = came_from (kea_subnets above known d) _ settings classes.gives in
+    let networks = came_from (list_of 256 (kea_network above known) (get (codes "shared-networks") d)) _ subnets.first subnets.is in
+    let others = came_from (list_of 256 (kea_subnet above known) (get (codes "subnet4") d)) _ subnets.first networks.gives in (
       listed_pass 256 (kea_class known) (class_notes known) (class_pass known) (codes "client-classes") path d classes.first classes.is,
-      listed_pass 256 (kea_subnet above known) (subnet_notes around known) (subnet_pass above around fits known) (codes "subnet4") path d subnets.first subnets.is,
+      none_in_both (listed_notes 256 (network_notes around known) (codes "shared-networks") path d) (listed_notes 256 (subnet_notes around known) (codes "subnet4") path d)
+          (listed_pass 256 (kea_network above known) (network_notes around known) (network_pass above around fits known) (codes "shared-networks") path d networks.first networks.is)
+          (listed_pass 256 (kea_subnet above known) (subnet_notes around known) (subnet_pass above around fits known) (codes "subnet4") path d others.first others.is),
     )
 
 -- all lists of the whole server, by these definitions
@@ -347,7 +529,7 @@ ServerLists around known path d =
     definition_notes false path d
     ++ option_notes true known path d
     ++ listed_notes 256 (class_notes known) (codes "client-classes") path d
-    ++ listed_notes 256 (subnet_notes around known) (codes "subnet4") path d
+    ++ all_subnet_notes around known path d
 
 server_pass : (server : Option ℕ) → NoneRefused (kea_dhcp4 server) (server_notes server)
 unfolding kea_dhcp4 server_notes server_lists lists_by all_times
@@ -375,7 +557,7 @@ server_pass server d settings path e =
     let definitions = definition_notes false path d in
     let of_options = option_notes true known.first path d in
     let classes = listed_notes 256 (class_notes known.first) (codes "client-classes") path d in
-    let subnets = listed_notes 256 (subnet_notes around known.first) (codes "subnet4") path d in
+    let subnets = all_subnet_notes around known.first path d in
     let all_lists : have_refused (ServerLists around known.first path d) ≡ false =
     none_in_both (definitions ++ of_options ++ classes) subnets
     (none_in_both (definitions ++ of_options) classes

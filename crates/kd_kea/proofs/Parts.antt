@@ -2,7 +2,7 @@
 use Rattle.std.proofs.Common.{◌≡◌, ℕ, zero, suc, ◌+◌, [], ◌∷◌, ◌++◌, map, refl, ap, ◌∙◌, arith}
 use Rattle.std.specs.List.{range_with_len}
 use Rattle.kd_config.specs.declared.pool.Pool.{Pool}
-use Rattle.kd_kea.specs.Parts.{first_parts, part_at}
+use Rattle.kd_kea.specs.Parts.{first_parts, pool_part}
 
 -- one number more
 mapped_more : {A : Type 0} (f : ℕ → A) (a n : ℕ) → map f (range_with_len a (suc n)) ≡ map f (range_with_len a n) ++ (f (a + n) ∷ [])
@@ -18,11 +18,11 @@ unfolding first_parts
 none_before pool = refl
 
 -- one part more
-pub one_more : (pool : Pool) (count : ℕ) → first_parts pool (count + 1) ≡ first_parts pool count ++ (part_at pool count ∷ [])
+pub one_more : (pool : Pool) (count : ℕ) → first_parts pool (count + 1) ≡ first_parts pool count ++ (pool_part pool count ∷ [])
 unfolding first_parts
 one_more pool count =
     let next : count + 1 ≡ suc count = omega arith in
     let here : 0 + count ≡ count = omega arith in
-    ap (λ (n : ℕ). map (part_at pool) (range_with_len 0 n)) next
-    ∙ mapped_more (part_at pool) 0 count
-    ∙ ap (λ (n : ℕ). map (part_at pool) (range_with_len 0 count) ++ (part_at pool n ∷ [])) here
+    ap (λ (n : ℕ). map (pool_part pool) (range_with_len 0 n)) next
+    ∙ mapped_more (pool_part pool) 0 count
+    ∙ ap (λ (n : ℕ). map (pool_part pool) (range_with_len 0 count) ++ (pool_part pool n ∷ [])) here

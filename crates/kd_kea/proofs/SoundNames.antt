@@ -1,5 +1,5 @@
 -- The options of a reservation, its host name among them, obey what all options obey.
-use Rattle.std.proofs.Common.{◌≡◌, ℕ, ◌-◌, ◌≤◌, Bool, true, false, not, cond, ◌&&◌, nat_le, nat_eq, ◌==◌, List, [], ◌∷◌, length, take, codes, Option, Some, None, refl, sym, subst, ap, ◌∙◌, arith}
+use Rattle.std.proofs.Common.{◌≡◌, ℕ, ◌-◌, ◌≤◌, Bool, true, false, not, cond, nat_le, nat_eq, ◌==◌, List, [], ◌∷◌, length, take, codes, Option, Some, None, refl, subst, ap, ◌∙◌, arith}
 use Rattle.std.proofs.lemmas.List.{length-map, length-take}
 use Rattle.std.specs.Char.{to_ascii_lowercase}
 use Rattle.std.specs.List.{AllByRecursion, ends_with, filter}

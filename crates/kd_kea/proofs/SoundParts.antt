@@ -7,7 +7,7 @@ use borrow.Author.Tests.{leb-true, ltb-true}
 use Rattle.kd_config.specs.Sound.{AreOptions, IsPool, IsRange}
 use Rattle.kd_config.specs.declared.pool.Pool.{Pool}
 use Rattle.kd_json.proofs.Came.{passed_only}
-use Rattle.kd_kea.specs.Parts.{first_part, first_parts, part_at, part_count, parts_of, parts_of_all}
+use Rattle.kd_kea.specs.Parts.{first_part, first_parts, pool_part, part_count, parts_of, parts_of_all}
 
 -- a pool of any number of addresses
 pub record IsWide (pool : Pool) : Type 0 where
@@ -23,7 +23,7 @@ first_sound : (first last : ℕ) → first ≤ last → IsRange (first_part firs
 first_sound first last some = first_sound_by first last (nat_lt (last - first) 65536) refl some
 
 -- a part of a pool is a pool of a configuration
-part_sound : (pool : Pool) (i : ℕ) → IsWide pool → i < part_count pool.range → IsPool (part_at pool i)
+part_sound : (pool : Pool) (i : ℕ) → IsWide pool → i < part_count pool.range → IsPool (pool_part pool i)
 part_sound pool i wide below =
     let whole = mul-div-le (pool.range.last - pool.range.first) 65536 in
     let some = wide.some in
@@ -31,7 +31,7 @@ part_sound pool i wide below =
     record { range = first_sound (pool.range.first + 65536 * i) pool.range.last within; options = wide.options }
 
 -- so are parts from one on
-parts_from : (pool : Pool) (a n : ℕ) → IsWide pool → a + n ≤ part_count pool.range → AllByRecursion IsPool (map (part_at pool) (range_with_len a n))
+parts_from : (pool : Pool) (a n : ℕ) → IsWide pool → a + n ≤ part_count pool.range → AllByRecursion IsPool (map (pool_part pool) (range_with_len a n))
 parts_from pool a zero wide within = tt
 parts_from pool a (suc n) wide within =
     (part_sound pool a wide (omega (arith, within)), parts_from pool (a + 1) n wide (omega (arith, within)))
@@ -41,7 +41,7 @@ unfolding first_parts
 each_part pool wide = parts_from pool 0 (part_count pool.range) wide (omega arith)
 
 -- what holds for two lists holds for both together
-each_of_both : {A : Type 0} (P : A → Type 0) (xs ys : List A) → AllByRecursion P xs → AllByRecursion P ys → AllByRecursion P (xs ++ ys)
+pub each_of_both : {A : Type 0} (P : A → Type 0) (xs ys : List A) → AllByRecursion P xs → AllByRecursion P ys → AllByRecursion P (xs ++ ys)
 each_of_both P [] ys first second = second
 each_of_both P (x ∷ xs) ys first second = (first.0, each_of_both P xs ys first.1 second)
 

@@ -1,14 +1,13 @@
 -- Plain values, as the code compares them.
 use Rattle.std.proofs.Common.{◌≡◌, ℕ, Bool, true, false, List, [], ◌∷◌, length, Option, Some, refl, sym, ap, ◌∙◌, arith}
 use Rattle.std.proofs.lemmas.Bool.Decides.{nat_tests}
-use Rattle.std.specs.Prelude.{◌==◌, bytes_eq, option_and_then}
-use Rattle.std.specs.Bool.{beq}
+use Rattle.std.specs.Prelude.{◌==◌, bytes_eq}
 use Rattle.std.specs.Option.{option_map_or}
-use Rattle.serde_json.specs.Data.{Data, null, boolean, number, string, array, object, unsigned, negative, float, Items, no_items, item}
+use Rattle.serde_json.specs.Data.{Data, null, boolean, number, string, array, object, Items, no_items, item}
 use Rattle.serde_json.specs.View.{items_view}
 use Rattle.serde_json.specs.declared.value.Value.{Value}
-use Rattle.serde_json.specs.Find.{as_array, as_bool, as_number, as_str, as_u64}
-use Rattle.kd_kea.specs.Keys.{flag, is_plain, no_list, whole, word}
+use Rattle.serde_json.specs.Find.{as_array, as_str}
+use Rattle.kd_kea.specs.Keys.{is_plain, no_list, word}
 
 pub word_is : (text : List ℕ) (d : Data) → is_plain (word text) d ≡ option_map_or (bytes_eq text) (as_str d) false
 word_is text null = refl

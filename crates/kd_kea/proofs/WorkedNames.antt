@@ -1,10 +1,9 @@
 -- Worked examples: reservations and options of Kea's, and the options that they mean, by hand.
-use Rattle.std.proofs.Common.{◌≡◌, true, false, List, [], ◌∷◌, Option, Some, None, refl}
+use Rattle.std.proofs.Common.{◌≡◌, true, false, [], ◌∷◌, Some, None, refl}
 use Rattle.std.specs.Prelude.{codes, option_map}
 use Rattle.std.specs.Fmt.{digits}
 use Rattle.std.specs.Str.{chars, is_utf8}
 use Rattle.serde_json.proofs.OnLiterals.{serde_json_on_literals}
-use Rattle.kd_classes.specs.declared.option_list.OptionData.{OptionData}
 use Rattle.kd_json.specs.Document.{value_spelled}
 use Rattle.kd_json.specs.HexText.{bytes_spelled}
 use Rattle.kd_json.specs.Lists.{list_of}
@@ -13,7 +12,7 @@ use Rattle.kd_kea.specs.Definitions.{usual_vendor}
 use Rattle.kd_kea.specs.HostName.{has_bare_names, host_name, host_options, server_has_bare_names}
 use Rattle.kd_kea.specs.Keys.{keys_are_read}
 use Rattle.kd_kea.specs.OptionValue.{fields_data}
-use Rattle.kd_kea.specs.Options.{code_named, entry_by, kea_code, kea_entry, kea_options, options_below}
+use Rattle.kd_kea.specs.Options.{entry_by, kea_code, kea_entry, kea_options, options_below}
 use Rattle.kd_kea.specs.Quoted.{bytes_in_quotes}
 use Rattle.kd_kea.specs.Values.{has_whole_bytes}
 use Rattle.kd_wire.specs.Steps.{◌>>=◌}

@@ -17,6 +17,7 @@ pub mod HostName
 pub mod Reservation
 pub mod Relay
 pub mod Subnet
+pub mod Network
 pub mod Hooks
 pub mod Settings
 pub mod Kea

@@ -7,6 +7,7 @@ use Rattle.std.specs.Prelude.{ℕ, ◌+◌, Bool, true, false, ◌||◌, if◌th
 use Rattle.std.specs.List.{flat_map, list_any}
 use Rattle.serde_json.specs.Data.{Data, Items, no_items, item, Members, no_members, member}
 use Rattle.serde_json.specs.Find.{as_array, as_object, as_str, get}
+use Rattle.kd_config.specs.Address.{has_address}
 use Rattle.kd_config.specs.Sound.{longest_lease}
 use Rattle.kd_config.specs.declared.prefix.Prefix.{Prefix}
 use Rattle.kd_config.specs.declared.times.Times.{Times}
@@ -21,6 +22,7 @@ use Rattle.kd_kea.specs.Definitions.{kea_definition, kea_definitions, kea_known,
 use Rattle.kd_kea.specs.HostName.{has_bare_names, host_name, may_be_named, server_has_bare_names}
 use Rattle.kd_kea.specs.Hooks.{hooks_are_quiet}
 use Rattle.kd_kea.specs.Keys.{KeyUse, Plain, flag, fraction, is_plain, key_use, may_have, no_list, skipped, whole}
+use Rattle.kd_kea.specs.Network.{is_interface_of, kea_network}
 use Rattle.kd_kea.specs.Options.{is_served_space, kea_entry, kea_options, server_address}
 use Rattle.kd_kea.specs.Plain.{plain}
 use Rattle.kd_kea.specs.Parts.{parts_of_all}
@@ -29,7 +31,7 @@ use Rattle.kd_kea.specs.Relay.{kea_relay}
 use Rattle.kd_kea.specs.Reservation.{kea_reservation}
 use Rattle.kd_kea.specs.Settings.{finds_reservations, kea_dhcp4, kea_root, turns_nothing_on}
 use Rattle.kd_kea.specs.Subnet.{is_at_server, kea_subnet, stand_beside}
-use Rattle.kd_kea.specs.Tables.{class_keys, data_keys, definition_keys, host_keys, pool_keys, relay_keys, root_keys, server_keys, subnet_keys}
+use Rattle.kd_kea.specs.Tables.{class_keys, data_keys, definition_keys, host_keys, network_keys, pool_keys, relay_keys, root_keys, server_keys, subnet_keys}
 use Rattle.kd_kea.specs.Times.{are_shares, kea_times, share_key, shares_given, times_key, usual_rebind, usual_renew}
 use Rattle.kd_kea.specs.Values.{flag_given, flag_or, is_plain_if_given}
 use Rattle.kd_kea.specs.declared.notes.Note.{Note}
@@ -500,6 +502,85 @@ subnet_notes around known path d =
     ++ beside_note around.outside around.bare known path d
     ++ subnet_lists known around.bare path d)
 
+-- ---- networks
+
+-- the prefix of the subnet that a value describes
+abbrev pub prefix_given : Data → Option Prefix
+prefix_given d = get (codes "subnet") d >>= subnet_prefix
+
+-- whether the interface of a network is the one with this address of the server's, if the prefixes of
+-- its members are known
+unfoldable pub kea_inside : ℕ → Data → Option Bool
+kea_inside server d = do
+  prefixes ← list_of 64 prefix_given (get (codes "subnet4") d)
+  Some (is_interface_of (list_any (λ prefix. has_address prefix server) prefixes) (get (codes "interface") d))
+
+-- the note on the interface of a network, which may only be the one with the server's address, if that
+-- is known
+abbrev pub inside_notes : Option ℕ → ObjectNotes
+inside_notes None path d = []
+inside_notes (Some server) path d =
+    note_unless (is_not_failed (kea_inside server d)) Unknown path (codes "interface")
+
+-- the notes on the keys of a network that are served with some values only, by what holds for the
+-- whole server
+unfoldable pub network_values : Around → ObjectNotes
+network_values around path d =
+    repeated_notes around path d
+    ++ calculated_notes around.calculated path d
+    ++ repeated_shares around.calculated around.shares path d
+    ++ inside_notes around.address path d
+
+-- the notes on the values of a network that are wrong by themselves
+unfoldable pub network_own : ObjectNotes
+network_own path d =
+    note_unless (is_some (get (codes "name") d >>= as_str)) Wrong path (codes "name")
+    ++ text_note (codes "client-class") path d
+    ++ flag_note (codes "reservations-out-of-pool") path d
+
+-- whether reservations of a network are looked for outside pools alone, if all that says so is right
+unfoldable pub outside_in : Option Bool → Data → Option Bool
+outside_in given d = do
+  other ← given
+  flag_or other (get (codes "reservations-out-of-pool") d)
+
+-- what holds above the members of a network, each part if it is right by itself
+unfoldable pub around_members : Around → Data → Around
+around_members around d =
+    record { address = around.address; times = around.times; calculated = around.calculated; shares = around.shares; outside = outside_in around.outside d; bare = has_bare_names around.bare d; lifetime = around.lifetime; renew = around.renew; rebind = around.rebind }
+
+-- the notes on the options, the members and the relay of a network, by what holds for the whole server
+-- and these definitions
+unfoldable pub network_lists : Around → List Definition → ObjectNotes
+network_lists around known path d =
+    option_notes false known path d
+    ++ listed_notes 64 (subnet_notes (around_members around d) known) (codes "subnet4") path d
+    ++ notes_at relay_notes path (codes "relay") d
+
+-- a network is described, if it is known what holds above it
+abbrev pub network_below : Option Above → List Definition → Data → Option (Unit {0})
+network_below None known d = Some tt
+network_below (Some above) known d = do
+  _ ← kea_network above known d
+  Some tt
+
+-- the notes of a network at a path, by what holds for the whole server and these definitions
+unfoldable pub network_notes : Around → List Definition → ObjectNotes
+network_notes around known path d =
+    object_notes (is_some (network_below (above_by around) known d)) path d
+    (own_notes network_keys path d
+    ++ network_values around path d
+    ++ network_own path d
+    ++ network_lists around known path d)
+
+-- ---- the whole server
+
+-- the notes on the networks and the subnets of the whole server
+unfoldable pub all_subnet_notes : Around → List Definition → ObjectNotes
+all_subnet_notes around known path d =
+    listed_notes 256 (network_notes around known) (codes "shared-networks") path d
+    ++ listed_notes 256 (subnet_notes around known) (codes "subnet4") path d
+
 -- the notes on the lists in the value of `Dhcp4`, by what holds for the whole server and these
 -- definitions
 unfoldable pub lists_by : Around → List Definition → ObjectNotes
@@ -507,7 +588,7 @@ lists_by around known path d =
     definition_notes false path d
     ++ option_notes true known path d
     ++ listed_notes 256 (class_notes known) (codes "client-classes") path d
-    ++ listed_notes 256 (subnet_notes around known) (codes "subnet4") path d
+    ++ all_subnet_notes around known path d
 
 -- the notes on these lists, for a server with this address if no option has another
 unfoldable pub server_lists : Option ℕ → ObjectNotes

@@ -12,8 +12,8 @@ first_part first last =
     record { first = first; last = (if nat_lt (last - first) 65536 then last else first + 65535) }
 
 -- the part of a pool behind so many parts of 65,536 addresses
-abbrev pub part_at : Pool → ℕ → Pool
-part_at pool i =
+abbrev pub pool_part : Pool → ℕ → Pool
+pool_part pool i =
     record {
       range = first_part (pool.range.first + 65536 * i) pool.range.last;
       class = pool.class;
@@ -26,7 +26,7 @@ part_count range = (range.last - range.first) / 65536 + 1
 
 -- so many parts of a pool, from the first on
 unfoldable pub first_parts : Pool → ℕ → List Pool
-first_parts pool count = map (part_at pool) (range_with_len 0 count)
+first_parts pool count = map (pool_part pool) (range_with_len 0 count)
 
 -- all parts of a pool
 abbrev pub parts_of : Pool → List Pool

@@ -11,8 +11,8 @@ use Rattle.kd_kea.specs.Definitions.{kea_known}
 use Rattle.kd_kea.specs.HostName.{server_has_bare_names}
 use Rattle.kd_kea.specs.Hooks.{hooks_are_quiet}
 use Rattle.kd_kea.specs.Keys.{Plain, flag, keys_are_read, no_list, word}
+use Rattle.kd_kea.specs.Network.{kea_subnets}
 use Rattle.kd_kea.specs.Options.{kea_options, sent_to_all, server_address}
-use Rattle.kd_kea.specs.Subnet.{kea_subnet}
 use Rattle.kd_kea.specs.Tables.{root_keys, server_keys}
 use Rattle.kd_kea.specs.Times.{has_usual_shares, kea_times, shares_given}
 use Rattle.kd_kea.specs.Values.{flag_given, has_plain, is_plain_if_given}
@@ -48,7 +48,7 @@ has_server_form d = do
 unfoldable pub kea_settings_with : List Definition → List OptionData → Above → Data → Option Settings
 kea_settings_with known options above d = do
   classes ← list_of 256 (kea_class known) (get (codes "client-classes") d)
-  subnets ← list_of 256 (kea_subnet above known) (get (codes "subnet4") d)
+  subnets ← kea_subnets above known d
   Some (record { server = above.server; times = above.times; options = sent_to_all options; classes = classes; subnets = subnets })
 
 -- the settings that the value of `Dhcp4` describes, for a server with this address if no option

@@ -47,7 +47,7 @@ stand_beside outside pools reservations =
     not outside || list_all (lies_outside pools) reservations
 
 -- the subnet of a prefix and a class with the lists in a value, by these definitions of options;
--- `bare` says that host names have no suffix
+-- `bare` says that host names have no suffix. It is in no network
 unfoldable pub kea_subnet_with : List Definition → Bool → Bool → Prefix → Option (List ℕ) → Data → Option Subnet
 kea_subnet_with known bare outside prefix class d = do
   relays ← relays_of (get (codes "relay") d)
@@ -55,7 +55,7 @@ kea_subnet_with known bare outside prefix class d = do
   reservations ← list_of 4096 (kea_reservation known bare) (get (codes "reservations") d)
   _ ← must (stand_beside outside pools reservations)
   options ← kea_options false known (get (codes "option-data") d)
-  Some (record { prefix = prefix; relays = relays; class = class; pools = pools; reservations = reservations; options = options })
+  Some (record { prefix = prefix; relays = relays; class = class; pools = pools; reservations = reservations; options = options; network = 0; shared = [] })
 
 -- a value has the keys of a subnet; its `id` is checked but not used
 unfoldable pub has_subnet_form : Above → Data → Option (Unit {0})

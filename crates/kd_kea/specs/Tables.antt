@@ -18,7 +18,7 @@ boot_keys =
     ∷ (codes "boot-file-name", usual (word [] ∷ []))
     ∷ []
 
--- the keys that the whole server and a subnet have in common
+-- the keys that the whole server, a shared network and a subnet have in common
 abbrev pub shared_keys : List (List ℕ × KeyUse)
 shared_keys =
     (codes "valid-lifetime", served)
@@ -48,6 +48,7 @@ shared_keys =
 abbrev pub server_keys : List (List ℕ × KeyUse)
 server_keys =
     (codes "client-classes", served)
+    ∷ (codes "shared-networks", served)
     ∷ (codes "subnet4", served)
     ∷ (codes "option-def", served)
     ∷ (codes "offer-lifetime", served)
@@ -75,7 +76,6 @@ server_keys =
     ∷ (codes "reservations-lookup-first", usual (flag false ∷ []))
     ∷ (codes "stash-agent-options", usual (flag false ∷ []))
     ∷ (codes "dhcp4o6-port", usual (whole 0 ∷ []))
-    ∷ (codes "shared-networks", usual (no_list ∷ []))
     ∷ (codes "reservations", skipped)
     ∷ (codes "hosts-databases", usual (no_list ∷ []))
     ∷ shared_keys
@@ -142,7 +142,17 @@ subnet_keys =
     ∷ (codes "4o6-subnet", usual (word [] ∷ []))
     ∷ required_keys ++ shared_keys
 
--- the keys of a subnet's relay
+-- the keys of a shared network
+abbrev pub network_keys : List (List ℕ × KeyUse)
+network_keys =
+    (codes "name", served)
+    ∷ (codes "subnet4", served)
+    ∷ (codes "client-class", served)
+    ∷ (codes "interface", served)
+    ∷ (codes "relay", served)
+    ∷ required_keys ++ shared_keys
+
+-- the keys of the relay of a subnet or a shared network
 abbrev pub relay_keys : List (List ℕ × KeyUse)
 relay_keys =
     (codes "ip-addresses", served) ∷ (codes "ip-address", served) ∷ []
@@ -175,6 +185,7 @@ key_table kinds.Data = data_keys
 key_table kinds.Definition = definition_keys
 key_table kinds.Class = class_keys
 key_table kinds.Subnet = subnet_keys
+key_table kinds.Network = network_keys
 key_table kinds.Relay = relay_keys
 key_table kinds.Pool = pool_keys
 key_table kinds.Reservation = host_keys

@@ -7,6 +7,7 @@ ghost use Rattle.kd_kea.specs.Notes.{kea_notes, kea_value, note_of};
 pub(crate) mod around;
 pub mod laws;
 mod list;
+mod networks;
 mod objects;
 mod values;
 mod walk;

@@ -19,7 +19,9 @@ pub(crate) enum ObjectKind {
     Class,
     // A subnet.
     Subnet,
-    // The relay of a subnet.
+    // A shared network.
+    Network,
+    // The relay of a subnet or a shared network.
     Relay,
     // A pool.
     Pool,
@@ -60,7 +62,7 @@ const BOOT: &[Row] = &[
     ("boot-file-name", NO_TEXT),
 ];
 
-// Keys that the whole server and a subnet have in common.
+// Keys that the whole server, a shared network and a subnet have in common.
 const SHARED: &[Row] = &[
     ("valid-lifetime", KeyRule::Served),
     ("min-valid-lifetime", KeyRule::Served),
@@ -94,6 +96,7 @@ const SHARED: &[Row] = &[
 // Keys of `Dhcp4` alone.
 const SERVER: &[Row] = &[
     ("client-classes", KeyRule::Served),
+    ("shared-networks", KeyRule::Served),
     ("subnet4", KeyRule::Served),
     ("option-def", KeyRule::Served),
     ("offer-lifetime", KeyRule::Served),
@@ -121,7 +124,6 @@ const SERVER: &[Row] = &[
     ("reservations-lookup-first", OFF),
     ("stash-agent-options", OFF),
     ("dhcp4o6-port", ZERO),
-    ("shared-networks", NO_LIST),
     ("reservations", KeyRule::Skipped),
     ("hosts-databases", NO_LIST),
 ];
@@ -182,7 +184,16 @@ const SUBNET: &[Row] = &[
     ("4o6-subnet", NO_TEXT),
 ];
 
-// Keys of a subnet's relay.
+// Keys of a shared network alone.
+const NETWORK: &[Row] = &[
+    ("name", KeyRule::Served),
+    ("subnet4", KeyRule::Served),
+    ("client-class", KeyRule::Served),
+    ("interface", KeyRule::Served),
+    ("relay", KeyRule::Served),
+];
+
+// Keys of the relay of a subnet or a shared network.
 const RELAY: &[Row] = &[
     ("ip-addresses", KeyRule::Served),
     ("ip-address", KeyRule::Served),
@@ -219,6 +230,8 @@ const CLASS_TABLES: &[&[Row]] = &[CLASS, REMARKS, BOOT];
 
 const SUBNET_TABLES: &[&[Row]] = &[SUBNET, REQUIRED, SHARED, REMARKS, BOOT];
 
+const NETWORK_TABLES: &[&[Row]] = &[NETWORK, REQUIRED, SHARED, REMARKS, BOOT];
+
 const RELAY_TABLES: &[&[Row]] = &[RELAY];
 
 const POOL_TABLES: &[&[Row]] = &[POOL, REQUIRED, REMARKS];
@@ -237,6 +250,7 @@ impl ObjectKind {
             ObjectKind::Definition => DEFINITION_TABLES,
             ObjectKind::Class => CLASS_TABLES,
             ObjectKind::Subnet => SUBNET_TABLES,
+            ObjectKind::Network => NETWORK_TABLES,
             ObjectKind::Relay => RELAY_TABLES,
             ObjectKind::Pool => POOL_TABLES,
             ObjectKind::Reservation => RESERVATION_TABLES,

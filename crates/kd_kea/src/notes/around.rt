@@ -126,7 +126,7 @@ impl<'a> EntryReader for BelowReader<'a> {
 
 // Returns what holds for the whole server, if all of it is right.
 #[tactic(auto, unfolding(crate::specs::Notes::above_by))]
-fn above_in(around: Around) -> Option<Above>
+pub(super) fn above_in(around: Around) -> Option<Above>
     ensures { result ≡ above_by around }
 {
     let server = around.address?;

@@ -3,7 +3,7 @@ ghost use Rattle.serde_json.specs.Find.{get};
 ghost use Rattle.serde_json.specs.View.{members_view, view};
 ghost use Rattle.kd_kea.specs.HostName.{has_bare_names};
 ghost use Rattle.kd_kea.specs.Keys.{key_use};
-ghost use Rattle.kd_kea.specs.Notes.{class_notes, data_notes, definition_note, definition_notes, host_notes, key_notes, kind_of_note, listed_notes, lists_by, member_keys, note_below, option_notes, own_notes, pool_notes, relay_notes, required_notes, root_notes, server_lists, server_notes, subnet_lists, subnet_notes, subnet_own, subnet_values};
+ghost use Rattle.kd_kea.specs.Notes.{all_subnet_notes, class_notes, data_notes, definition_note, definition_notes, host_notes, key_notes, kind_of_note, listed_notes, lists_by, member_keys, note_below, option_notes, own_notes, pool_notes, relay_notes, required_notes, root_notes, server_lists, server_notes, subnet_lists, subnet_notes, subnet_own, subnet_values};
 ghost use Rattle.kd_kea.specs.Scope.{definitions_in};
 ghost use Rattle.kd_kea.specs.Tables.{key_table, subnet_keys};
 
@@ -12,6 +12,7 @@ use crate::keys::{KeyRule, rule_in};
 use crate::notes::NoteKind;
 use crate::notes::around::{Around, BelowReader, is_beside, read_around};
 use crate::notes::list::NoteList;
+use crate::notes::networks::NetworkObject;
 use crate::notes::values::{
     note_flag, note_name, note_server_times, note_server_values, note_subnet_own,
     note_subnet_values, note_text,
@@ -109,13 +110,39 @@ fn note_lists_by(
         key: "client-classes",
         most: 256,
     };
+    note_definitions(notes, server, path, false)?;
+    note_all_options(notes, server, path, known)?;
+    note_list(notes, server, path, classes, ClassObject { known })?;
+    note_all_subnets(notes, server, path, around, known)
+}
+
+// Notes the networks and the subnets of the whole server.
+#[tactic(auto, unfolding(crate::specs::Notes::all_subnet_notes))]
+fn note_all_subnets(
+    notes: &mut NoteList,
+    server: &Value,
+    path: &str,
+    around: Around,
+    known: &[Definition],
+) -> Result<(), AllocError>
+    ensures { OnOk result
+        (notes.new ≡ notes.old ++ all_subnet_notes around known.now path.now (view server.now)) }
+{
+    let networks = Listed {
+        key: "shared-networks",
+        most: 256,
+    };
     let subnets = Listed {
         key: "subnet4",
         most: 256,
     };
-    note_definitions(notes, server, path, false)?;
-    note_all_options(notes, server, path, known)?;
-    note_list(notes, server, path, classes, ClassObject { known })?;
+    note_list(
+        notes,
+        server,
+        path,
+        networks,
+        NetworkObject { around, known },
+    )?;
     note_list(notes, server, path, subnets, SubnetObject { around, known })
 }
 
@@ -163,9 +190,9 @@ impl<'a> NotedObject for ClassObject<'a> {
 
 // A subnet, below what holds for the whole server and with its definitions of options.
 #[derive(Clone, Copy)]
-struct SubnetObject<'a> {
-    around: Around,
-    known: &'a [Definition],
+pub(super) struct SubnetObject<'a> {
+    pub(super) around: Around,
+    pub(super) known: &'a [Definition],
 }
 
 impl<'a> NotedObject for SubnetObject<'a> {
@@ -315,9 +342,9 @@ impl<'a> NotedObject for HostObject<'a> {
     }
 }
 
-// The relay of a subnet.
+// The relay of a subnet or a network.
 #[derive(Clone, Copy)]
-struct RelayObject;
+pub(super) struct RelayObject;
 
 impl NotedObject for RelayObject {
     ghost noted = { λ it. relay_notes };
@@ -367,7 +394,7 @@ impl<'a> NotedObject for OptionObject<'a> {
 }
 
 // Notes the options of a part of the server at a path, by the definitions of the whole.
-fn note_part_options(
+pub(super) fn note_part_options(
     notes: &mut NoteList,
     object: &Value,
     path: &str,
@@ -470,7 +497,7 @@ fn note_definitions(
 
 // Notes the keys of an object at a path that are not read; none of another value.
 #[tactic(auto, unfolding(crate::specs::Notes::own_notes))]
-fn note_keys(
+pub(super) fn note_keys(
     notes: &mut NoteList,
     object: &Value,
     path: &str,

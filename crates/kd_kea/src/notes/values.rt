@@ -84,9 +84,9 @@ pub(super) fn note_subnet_values(
     note_interface(notes, subnet, path, around.address)
 }
 
-// Notes the times of a subnet, which may only be those of the whole server.
+// Notes the times of a subnet or a network, which may only be those of the whole server.
 #[tactic(auto, unfolding(crate::specs::Notes::repeated_notes))]
-fn note_repeated(
+pub(super) fn note_repeated(
     notes: &mut NoteList,
     subnet: &Value,
     path: &str,
@@ -186,7 +186,7 @@ fn note_shares(
 
 // Notes the shares of T1 and T2 of a subnet, which may only be those of the whole server if the
 // times are calculated.
-fn note_repeated_shares(
+pub(super) fn note_repeated_shares(
     notes: &mut NoteList,
     subnet: &Value,
     path: &str,
@@ -257,7 +257,7 @@ fn note_time(
 }
 
 // Notes whether the times of a subnet are calculated, if it is known of the whole server.
-fn note_calculated(
+pub(super) fn note_calculated(
     notes: &mut NoteList,
     subnet: &Value,
     path: &str,

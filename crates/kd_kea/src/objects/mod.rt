@@ -10,6 +10,7 @@ pub(crate) mod flags;
 pub(crate) mod hooks;
 pub(crate) mod host_name;
 mod inside;
+pub(crate) mod network;
 mod option_value;
 pub(crate) mod options;
 mod parts;

@@ -2,13 +2,12 @@ ghost use Rattle.std.specs.Prelude.{◌≡◌, ◌++◌, ◌+◌, ◌-◌, ◌*�
 ghost use Rattle.std.specs.List.{flat_map};
 ghost use Rattle.kd_json.specs.Gives.{Means};
 ghost use Rattle.kd_json.specs.declared.objects.faults.SettingsFault.TheVariants.{Memory};
-ghost use Rattle.kd_kea.specs.Parts.{first_part, first_parts, part_at, part_count, parts_of, parts_of_all};
+ghost use Rattle.kd_kea.specs.Parts.{first_part, first_parts, pool_part, part_count, parts_of, parts_of_all};
 
-use kd_classes::{OptionData, OptionList};
-use kd_config::{Pool, Range};
+use kd_config::{Pool, Range, class_copied, options_copied};
 use kd_json::objects::faults::SettingsFault;
 use kd_json::rules::place::{Place, bad_value};
-use kd_wire::{Bytes, Entries};
+use kd_wire::Entries;
 use std::alloc::{AllocError, Global};
 
 // The most pools of a subnet.
@@ -64,12 +63,12 @@ fn push_parts(alloc: Global, out: &mut Vec<Pool>, pool: &Pool, count: u32) -> Re
 // Returns the part of a pool behind so many parts of 65,536 addresses.
 fn part_of(alloc: Global, pool: &Pool, i: u32) -> Result<Pool, AllocError>
     requires { 65536 * i ≤ pool.now.range.last - pool.now.range.first }
-    ensures { IfOk result (λ part. part ≡ part_at pool.now i) }
+    ensures { IfOk result (λ part. part ≡ pool_part pool.now i) }
 {
     Ok(Pool {
         range: nth_part(pool.range, i),
         class: class_copied(alloc, &pool.class)?,
-        options: copied(alloc, pool.options.as_slice())?,
+        options: options_copied(alloc, pool.options.as_slice())?,
     })
 }
 
@@ -94,33 +93,4 @@ fn beginning(first: u32, last: u32) -> Range
             last: first + 65_535,
         }
     }
-}
-
-// Copies the name of a class, if there is one.
-fn class_copied(alloc: Global, class: &Option<Bytes>) -> Result<Option<Bytes>, AllocError>
-    ensures { IfOk result (λ copy. copy ≡ class.now) }
-{
-    match class {
-        Some(name) => {
-            let name = Vec::from_slice(alloc, name.as_slice())?;
-            Ok(Some(Bytes::own(name)))
-        }
-        None => Ok(None),
-    }
-}
-
-// Copies options.
-fn copied(alloc: Global, options: &[OptionData]) -> Result<OptionList, AllocError>
-    ensures { IfOk result (λ list. list ≡ options.now) }
-{
-    let mut list = Vec::new(alloc);
-    for option in options {
-        let value = Vec::from_slice(alloc, option.value.as_slice())?;
-        list.push(OptionData {
-            code: option.code,
-            value: Bytes::own(value),
-            always: option.always,
-        })?;
-    }
-    Ok(OptionList::own(list))
 }

@@ -17,9 +17,10 @@ use crate::objects::definition::{Definition, known_definitions};
 use crate::objects::flags::{check_usual, flag_at, is_usual_at};
 use crate::objects::hooks::check_hooks;
 use crate::objects::host_name::server_names_are_bare;
+use crate::objects::network::subnets_of;
 use crate::objects::options::{address_among, options_of, without_server};
 use crate::objects::scope::scope_of_all;
-use crate::objects::subnet::{Above, SubnetReader};
+use crate::objects::subnet::Above;
 use crate::objects::times::{check_shares, shares_in, times_of};
 use crate::tables::ObjectKind;
 use kd_classes::{OptionData, OptionList};
@@ -107,7 +108,6 @@ fn settings_of_lists(
 ) -> Result<Settings, SettingsFault>
     ensures { Means Memory result (kea_settings_with known.now options above (view value.now)) }
 {
-    let reader = SubnetReader { above, known };
     let classes = entries_of(
         alloc,
         value,
@@ -116,7 +116,7 @@ fn settings_of_lists(
         256,
         &ClassReader { known },
     )?;
-    let subnets = entries_of(alloc, value, at, "subnet4", 256, &reader)?;
+    let subnets = subnets_of(alloc, value, at, above, known)?;
     let options = without_server(alloc, options)?;
     Ok(Settings {
         server: above.server,

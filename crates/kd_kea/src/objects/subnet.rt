@@ -24,6 +24,7 @@ use crate::objects::reservation::ReservationReader;
 use crate::objects::scope::part_scope;
 use crate::objects::times::{Shares, check_times};
 use crate::tables::ObjectKind;
+use kd_classes::OptionList;
 use kd_config::{Pool, Prefix, Reservation, Reservations, Subnet, Times};
 use kd_json::objects::faults::SettingsFault;
 use kd_json::objects::lists::{EntryReader, entries_of};
@@ -153,7 +154,7 @@ pub(crate) fn written_prefix(subnet: &Value) -> Option<Prefix>
 }
 
 // Builds the subnet of a prefix and a class with the lists in a value, by the definitions of options
-// with which its reservations are read.
+// with which its reservations are read. It is in no network.
 #[tactic(auto, unfolding(crate::specs::Subnet::kea_subnet_with))]
 fn subnet_of_lists(
     alloc: Global,
@@ -187,6 +188,8 @@ fn subnet_of_lists(
         pools,
         reservations,
         options,
+        network: 0,
+        shared: OptionList::own(Vec::new(alloc)),
     })
 }
 

@@ -6,6 +6,6 @@ use Rattle.kd_kea.proofs.notes.objects.note_lists_by.Goals as goal
 pub returns : goal.returns
 unfolding lists_by
 returns c =
-    on_ok_weaker c.note_list-2.result
+    on_ok_weaker c.note_all_subnets.result
     (four_joined _ _ _ _ _ _ _ _ _ c.in_ok-note_definitions.ensures c.in_ok-note_all_options.ensures c.in_ok-note_list.ensures)
-    c.note_list-2.ensures
+    c.note_all_subnets.ensures

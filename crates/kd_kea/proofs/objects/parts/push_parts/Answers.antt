@@ -2,7 +2,7 @@ use Rattle.std.proofs.Common.{◌≡◌, ℕ, List, [], ◌∷◌, ◌++◌, sym
 use Rattle.std.proofs.lemmas.List.{append_assoc, append-nil}
 use Rattle.kd_config.specs.declared.pool.Pool.{Pool}
 use Rattle.kd_kea.proofs.Parts.{none_before, one_more}
-use Rattle.kd_kea.specs.Parts.{first_parts, part_at}
+use Rattle.kd_kea.specs.Parts.{first_parts, pool_part}
 use Rattle.kd_kea.proofs.objects.parts.push_parts.Goals as goal
 
 pub loop-i-init : goal.loop-i-init
@@ -13,7 +13,7 @@ loop-i-init c =
 pub loop-i-preserved : goal.loop-i-preserved
 loop-i-preserved c =
     let before : List Pool = c.args.out.now.items in
-    let part : Pool = part_at c.args.pool.now c.loop-i.i in
+    let part : Pool = pool_part c.args.pool.now c.loop-i.i in
     c.in_ok-push.ensures.items
     ∙ ap (λ (p : Pool). c.loop-i.out.items ++ (p ∷ [])) c.in_ok-part.ensures
     ∙ ap (λ (xs : List Pool). xs ++ (part ∷ [])) c.loop-i.invariant

@@ -1,0 +1,143 @@
+-- A shared network in a configuration of Kea's: subnets on one link. What is said of the network
+-- holds for each of its subnets, its members (Kea Administrator Reference Manual, section Shared
+-- Networks in DHCPv4).
+use Rattle.std.specs.Prelude.{ℕ, ◌+◌, Bool, true, false, ◌||◌, not, List, [], ◌∷◌, ◌++◌, length, map, nat_le, codes, Option, Some, None, is_some}
+use Rattle.std.specs.List.{list_all, list_any}
+use Rattle.serde_json.specs.Data.{Data, string}
+use Rattle.serde_json.specs.Find.{as_str, get}
+use Rattle.kd_config.specs.Address.{has_address}
+use Rattle.kd_config.specs.declared.pool.Pool.{Pool}
+use Rattle.kd_config.specs.declared.reservation.Reservation.{Reservation}
+use Rattle.kd_config.specs.declared.subnet.Subnet.{Subnet}
+use Rattle.kd_json.specs.Lists.{list_of}
+use Rattle.kd_json.specs.Steps.{must, only_if}
+use Rattle.kd_json.specs.Values.{text_if_given}
+use Rattle.kd_kea.specs.HostName.{has_bare_names}
+use Rattle.kd_kea.specs.Keys.{is_plain, keys_are_read, word}
+use Rattle.kd_kea.specs.Options.{kea_options}
+use Rattle.kd_kea.specs.Relay.{relays_of}
+use Rattle.kd_kea.specs.Subnet.{kea_subnet}
+use Rattle.kd_kea.specs.Tables.{network_keys}
+use Rattle.kd_kea.specs.Times.{repeats_times}
+use Rattle.kd_kea.specs.Values.{flag_or, unless_empty}
+use Rattle.kd_kea.specs.declared.objects.definition.Definition.{Definition}
+use Rattle.kd_kea.specs.declared.objects.network.Common.{Common}
+use Rattle.kd_kea.specs.declared.objects.subnet.Above.{Above}
+use Rattle.kd_wire.specs.Steps.{◌>>=◌}
+
+-- an address is in the prefix of one of these subnets
+abbrev pub is_in_one_of : List Subnet → ℕ → Bool
+is_in_one_of members address = list_any (λ member. has_address member.prefix address) members
+
+-- a network's interface, if it is given, is the one with the server's address: a text that is
+-- empty, or any text if the address is in the network
+abbrev pub is_interface_of : Bool → Option Data → Bool
+is_interface_of inside None = true
+is_interface_of inside (Some (string text)) = is_plain (word []) (string text) || inside
+is_interface_of inside (Some d) = false
+
+-- the relays of a member: its own, or those of its network if it names none
+abbrev pub relays_or : List ℕ → List ℕ → List ℕ
+relays_or [] others = others
+relays_or (relay ∷ relays) others = relay ∷ relays
+
+-- the class of a member: its own or that of its network. They may not both be given, since a pool
+-- is for one class at most
+abbrev pub one_class : Option (List ℕ) → Option (List ℕ) → Option (Option (List ℕ))
+one_class None other = Some other
+one_class (Some class) None = Some (Some class)
+one_class (Some class) (Some other) = None
+
+-- a pool is for each client of its subnet
+abbrev pub is_for_each : Pool → Bool
+is_for_each pool = not (is_some pool.class)
+
+-- a member with these pools and reservations may be of a class: none of its pools has a class,
+-- since a pool is for one class at most, and it has no reservations, which are for clients of every
+-- class
+abbrev pub may_be_of : Option (List ℕ) → List Pool → List Reservation → Bool
+may_be_of None pools reservations = true
+may_be_of (Some class) pools [] = list_all is_for_each pools
+may_be_of (Some class) pools (reservation ∷ reservations) = false
+
+-- a subnet as a member of a network that has this in common. It has no number yet
+unfoldable pub as_member : Common → Subnet → Option Subnet
+as_member common subnet = do
+  class ← one_class subnet.class common.class
+  _ ← must (may_be_of class subnet.pools subnet.reservations)
+  Some (record { prefix = subnet.prefix; relays = relays_or subnet.relays common.relays; class = class; pools = subnet.pools; reservations = subnet.reservations; options = subnet.options; network = 0; shared = common.options })
+
+-- the member that a value describes
+unfoldable pub kea_member : Above → List Definition → Common → Data → Option Subnet
+kea_member above known common d = do
+  subnet ← kea_subnet above known d
+  as_member common subnet
+
+-- a value has the keys of a network; its name is not used
+unfoldable pub has_network_form : Above → Data → Option (Unit {0})
+has_network_form above d = do
+  _ ← must (keys_are_read network_keys d)
+  _ ← repeats_times above.calculated above.shares above.times d
+  must (is_some (get (codes "name") d >>= as_str))
+
+-- what the members of a network have in common; an empty class is none
+unfoldable pub kea_common : List Definition → Data → Option Common
+kea_common known d = do
+  relays ← relays_of (get (codes "relay") d)
+  class ← text_if_given (get (codes "client-class") d)
+  options ← kea_options false known (get (codes "option-data") d)
+  Some (record { relays = relays; class = unless_empty class; options = options })
+
+-- what holds above the members of a network
+abbrev pub above_members : Above → Bool → Data → Above
+above_members above outside d =
+    record {
+      server = above.server;
+      times = above.times;
+      calculated = above.calculated;
+      shares = above.shares;
+      outside = outside;
+      bare = has_bare_names above.bare d;
+    }
+
+-- the members of the network that a value describes, below what holds for the whole server
+unfoldable pub kea_network : Above → List Definition → Data → Option (List Subnet)
+kea_network above known d = do
+  _ ← has_network_form above d
+  common ← kea_common known d
+  outside ← flag_or above.outside (get (codes "reservations-out-of-pool") d)
+  members ← list_of 64 (kea_member (above_members above outside d) known common) (get (codes "subnet4") d)
+  _ ← must (is_interface_of (is_in_one_of members above.server) (get (codes "interface") d))
+  Some members
+
+-- a member of the network with a number
+abbrev pub with_network : ℕ → Subnet → Subnet
+with_network number subnet =
+    record {
+      prefix = subnet.prefix;
+      relays = subnet.relays;
+      class = subnet.class;
+      pools = subnet.pools;
+      reservations = subnet.reservations;
+      options = subnet.options;
+      network = number;
+      shared = subnet.shared;
+    }
+
+-- the members of networks, each with the number of its network: this one for the first
+abbrev pub numbered : ℕ → List (List Subnet) → List Subnet
+numbered number [] = []
+numbered number (members ∷ networks) =
+    map (with_network number) members ++ numbered (number + 1) networks
+
+-- the members of networks, and then other subnets: at most 256 together
+abbrev pub all_subnets : List (List Subnet) → List Subnet → Option (List Subnet)
+all_subnets networks others =
+    only_if (nat_le (length (numbered 1 networks ++ others)) 256) (numbered 1 networks ++ others)
+
+-- the subnets in the value of `Dhcp4`: the members of its networks, and then those in no network
+unfoldable pub kea_subnets : Above → List Definition → Data → Option (List Subnet)
+kea_subnets above known d = do
+  networks ← list_of 256 (kea_network above known) (get (codes "shared-networks") d)
+  others ← list_of 256 (kea_subnet above known) (get (codes "subnet4") d)
+  all_subnets networks others

@@ -1,0 +1,371 @@
+ghost use Rattle.std.specs.Prelude.{◌≡◌, ◌≤◌, ◌++◌, IfOk, OnOk, codes, is_some, length, map, option_and_then};
+ghost use Rattle.std.specs.List.{list_all};
+ghost use Rattle.serde_json.specs.Find.{as_str, get};
+ghost use Rattle.serde_json.specs.View.{view};
+ghost use Rattle.kd_json.specs.Gives.{Means};
+ghost use Rattle.kd_json.specs.Steps.{must};
+ghost use Rattle.kd_json.specs.declared.objects.faults.SettingsFault.TheVariants.{Memory};
+ghost use Rattle.kd_kea.specs.Network.{above_members, all_subnets, as_member, has_network_form, is_in_one_of, is_for_each, is_interface_of, kea_common, kea_member, kea_network, kea_subnets, may_be_of, numbered, one_class, relays_or, with_network};
+
+use crate::checking::check_keys;
+use crate::objects::definition::Definition;
+use crate::objects::flags::{flag_or_default, non_empty, text_at};
+use crate::objects::host_name::names_are_bare;
+use crate::objects::options::options_of;
+use crate::objects::relay::relays_in;
+use crate::objects::scope::part_scope;
+use crate::objects::subnet::{Above, SubnetReader};
+use crate::objects::times::check_times;
+use crate::tables::ObjectKind;
+use kd_classes::OptionList;
+use kd_config::{Pool, Reservation, Subnet, class_copied, options_copied};
+use kd_json::objects::faults::SettingsFault;
+use kd_json::objects::lists::{EntryReader, entries_of};
+use kd_json::objects::values::text_or_none;
+use kd_json::rules::place::{Place, bad_value, unknown};
+use kd_wire::{Bytes, Entries};
+use serde_json::Value;
+use std::alloc::{AllocError, Global};
+
+// The most subnets of a server.
+const MOST_SUBNETS: usize = 256;
+
+// Reads the subnets in the value of `Dhcp4`: the members of its networks, and then the others.
+#[tactic(auto, unfolding(crate::specs::Network::kea_subnets), using(kd_json::proofs::Came::few_meant))]
+pub(crate) fn subnets_of(
+    alloc: Global,
+    dhcp4: &Value,
+    at: &Place<'_>,
+    above: Above,
+    known: &[Definition],
+) -> Result<Entries<Subnet>, SettingsFault>
+    ensures { Means Memory result (kea_subnets above known.now (view dhcp4.now)) }
+{
+    let reader = NetworkReader { above, known };
+    let networks = entries_of(alloc, dhcp4, at, "shared-networks", 256, &reader)?;
+    let reader = SubnetReader { above, known };
+    let others = entries_of(alloc, dhcp4, at, "subnet4", 256, &reader)?;
+    subnets_together(alloc, at, networks, others)
+}
+
+// Returns the members of networks, numbered, and then other subnets: at most 256 together.
+fn subnets_together(
+    alloc: Global,
+    at: &Place<'_>,
+    networks: Entries<Entries<Subnet>>,
+    others: Entries<Subnet>,
+) -> Result<Entries<Subnet>, SettingsFault>
+    requires { length networks ≤ 256 }
+    ensures { Means Memory result (all_subnets networks others) }
+{
+    let mut all = numbered_members(alloc, networks)?;
+    let mut others = others.into_vec();
+    all.append(&mut others)?;
+    if all.len() <= MOST_SUBNETS {
+        Ok(Entries::own(all))
+    } else {
+        Err(bad_value(alloc, at, "shared-networks"))
+    }
+}
+
+// Returns the members of networks, each with the number of its network, from 1.
+fn numbered_members(
+    alloc: Global,
+    networks: Entries<Entries<Subnet>>,
+) -> Result<Vec<Subnet>, AllocError>
+    requires { length networks ≤ 256 }
+    ensures { IfOk result (λ members. members.items ≡ numbered 1 networks) }
+{
+    let mut all = Vec::new(alloc);
+    let mut number = 1;
+    for members in networks.into_vec() {
+        push_members(&mut all, members, number)?;
+        number += 1;
+    }
+    Ok(all)
+}
+
+// Appends the members of the network with a number.
+fn push_members(
+    out: &mut Vec<Subnet>,
+    members: Entries<Subnet>,
+    number: u32,
+) -> Result<(), AllocError>
+    ensures { OnOk result (out.new.items ≡ out.old.items ++ map (with_network number) members) }
+{
+    for member in members.into_vec() {
+        out.push(Subnet {
+            network: number,
+            ..member
+        })?;
+    }
+    Ok(())
+}
+
+// What the members of a network have in common.
+#[derive(Drop)]
+pub(crate) struct Common {
+    // The relays of a member that names none.
+    pub(crate) relays: Entries<u32>,
+    // The class of each member, if there is one.
+    pub(crate) class: Option<Bytes>,
+    // The options of the network.
+    pub(crate) options: OptionList,
+}
+
+// Reads networks.
+#[derive(Clone, Copy)]
+pub(crate) struct NetworkReader<'a> {
+    pub(crate) above: Above,
+    // The definitions of options.
+    pub(crate) known: &'a [Definition],
+}
+
+impl<'a> EntryReader for NetworkReader<'a> {
+    type Entry = Entries<Subnet>;
+
+    ghost means = { λ reader. kea_network reader.above reader.known.now };
+
+    #[tactic(auto, unfolding(crate::specs::Network::kea_network))]
+    fn read(
+        &self,
+        alloc: Global,
+        value: &Value,
+        at: &Place<'_>,
+    ) -> Result<Entries<Subnet>, SettingsFault> {
+        check_form(alloc, value, at, self.above)?;
+        let common = common_of(alloc, value, at, self.known)?;
+        let key = "reservations-out-of-pool";
+        let outside = flag_or_default(alloc, value, at, key, self.above.outside)?;
+        let reader = MemberReader {
+            above: above_in(value, self.above, outside),
+            known: self.known,
+            common: &common,
+        };
+        let members = entries_of(alloc, value, at, "subnet4", 64, &reader)?;
+        check_interface(alloc, value, at, self.above.server, members.as_slice())?;
+        Ok(members)
+    }
+}
+
+// Checks that the value has the keys of a network, with values that change nothing for it.
+#[tactic(auto, unfolding(crate::specs::Network::has_network_form))]
+fn check_form(
+    alloc: Global,
+    value: &Value,
+    at: &Place<'_>,
+    above: Above,
+) -> Result<(), SettingsFault>
+    ensures { Means Memory result (has_network_form above (view value.now)) }
+{
+    check_keys(alloc, value, at, ObjectKind::Network)?;
+    check_times(
+        alloc,
+        value,
+        at,
+        above.calculated,
+        above.shares,
+        above.times,
+    )?;
+    check_name(alloc, value, at)
+}
+
+// Checks that a network has a name.
+fn check_name(alloc: Global, network: &Value, at: &Place<'_>) -> Result<(), SettingsFault>
+    ensures { Means Memory result
+        (must (is_some (option_and_then as_str (get (codes "name") (view network.now))))) }
+{
+    text_at(alloc, network, at, "name")?;
+    Ok(())
+}
+
+// Reads what the members of a network have in common.
+#[tactic(auto, unfolding(crate::specs::Network::kea_common))]
+fn common_of(
+    alloc: Global,
+    network: &Value,
+    at: &Place<'_>,
+    known: &[Definition],
+) -> Result<Common, SettingsFault>
+    ensures { Means Memory result (kea_common known.now (view network.now)) }
+{
+    let relays = relays_in(alloc, network, at)?;
+    let class = text_or_none(alloc, network, at, "client-class")?;
+    let options = options_of(alloc, network, at, part_scope(known))?;
+    Ok(Common {
+        relays,
+        class: non_empty(class),
+        options,
+    })
+}
+
+// Returns what holds above the members of a network.
+fn above_in(network: &Value, above: Above, outside: bool) -> Above
+    ensures { result ≡ above_members above outside (view network.now) }
+{
+    Above {
+        server: above.server,
+        times: above.times,
+        calculated: above.calculated,
+        shares: above.shares,
+        outside,
+        bare: names_are_bare(network, above.bare),
+    }
+}
+
+// Checks that a network's interface is the one with the server's address.
+fn check_interface(
+    alloc: Global,
+    network: &Value,
+    at: &Place<'_>,
+    server: u32,
+    members: &[Subnet],
+) -> Result<(), SettingsFault>
+    ensures { Means Memory result
+        (must (is_interface_of (is_in_one_of members.now server)
+        (get (codes "interface") (view network.now)))) }
+{
+    if has_own_interface(network, are_around(members, server)) {
+        Ok(())
+    } else {
+        Err(unknown(alloc, at, "interface"))
+    }
+}
+
+// Reports whether a network's interface, if it is given, is the one with the server's address,
+// which is inside the network or not.
+pub(crate) fn has_own_interface(network: &Value, inside: bool) -> bool
+    ensures { result ≡ is_interface_of inside (get (codes "interface") (view network.now)) }
+{
+    let Some(value) = network.get("interface") else {
+        return true;
+    };
+    match value.as_str() {
+        Some(name) => name.is_empty() || inside,
+        None => false,
+    }
+}
+
+// Reports whether an address is in the prefix of one of these members.
+fn are_around(members: &[Subnet], address: u32) -> bool
+    ensures { result ≡ is_in_one_of members.now address }
+{
+    members.iter().any(|member| member.prefix.contains(address))
+}
+
+// Reads the members of a network.
+#[derive(Clone, Copy)]
+struct MemberReader<'a> {
+    above: Above,
+    // The definitions of options.
+    known: &'a [Definition],
+    common: &'a Common,
+}
+
+impl<'a> EntryReader for MemberReader<'a> {
+    type Entry = Subnet;
+
+    ghost means = { λ reader. kea_member reader.above reader.known.now reader.common.now };
+
+    #[tactic(auto, unfolding(crate::specs::Network::kea_member))]
+    fn read(&self, alloc: Global, value: &Value, at: &Place<'_>) -> Result<Subnet, SettingsFault> {
+        let reader = SubnetReader {
+            above: self.above,
+            known: self.known,
+        };
+        let subnet = reader.read(alloc, value, at)?;
+        member_of(alloc, at, self.common, subnet)
+    }
+}
+
+// Makes a subnet a member of a network that has this in common.
+#[tactic(auto, unfolding(crate::specs::Network::as_member))]
+fn member_of(
+    alloc: Global,
+    at: &Place<'_>,
+    common: &Common,
+    subnet: Subnet,
+) -> Result<Subnet, SettingsFault>
+    ensures { Means Memory result (as_member common.now subnet) }
+{
+    let class = class_of_both(alloc, at, subnet.class, &common.class)?;
+    let pools = subnet.pools;
+    let reservations = subnet.reservations;
+    check_class(alloc, at, &class, pools.as_slice(), reservations.as_slice())?;
+    Ok(Subnet {
+        prefix: subnet.prefix,
+        relays: relays_of_both(alloc, subnet.relays, common.relays.as_slice())?,
+        class,
+        pools,
+        reservations,
+        options: subnet.options,
+        network: 0,
+        shared: options_copied(alloc, common.options.as_slice())?,
+    })
+}
+
+// Returns the class of a member, its own or that of its network. They may not both be given.
+fn class_of_both(
+    alloc: Global,
+    at: &Place<'_>,
+    own: Option<Bytes>,
+    other: &Option<Bytes>,
+) -> Result<Option<Bytes>, SettingsFault>
+    ensures { Means Memory result (one_class own other.now) }
+{
+    match (own, other) {
+        (None, other) => Ok(class_copied(alloc, other)?),
+        (own, None) => Ok(own),
+        (Some(_), Some(_)) => Err(unknown(alloc, at, "client-class")),
+    }
+}
+
+// Returns the relays of a member: its own, or those of its network if it names none.
+fn relays_of_both(
+    alloc: Global,
+    own: Entries<u32>,
+    others: &[u32],
+) -> Result<Entries<u32>, AllocError>
+    ensures { IfOk result (λ relays. relays ≡ relays_or own others.now) }
+{
+    if own.as_slice().is_empty() {
+        Ok(Entries::own(Vec::from_slice(alloc, others)?))
+    } else {
+        Ok(own)
+    }
+}
+
+// Checks that a member with these pools and reservations may be of a class.
+fn check_class(
+    alloc: Global,
+    at: &Place<'_>,
+    class: &Option<Bytes>,
+    pools: &[Pool],
+    reservations: &[Reservation],
+) -> Result<(), SettingsFault>
+    ensures { Means Memory result (must (may_be_of class.now pools.now reservations.now)) }
+{
+    if may_have_class(class, pools, reservations) {
+        Ok(())
+    } else {
+        Err(unknown(alloc, at, "client-class"))
+    }
+}
+
+// Reports whether a member with these pools and reservations may be of a class.
+fn may_have_class(class: &Option<Bytes>, pools: &[Pool], reservations: &[Reservation]) -> bool
+    ensures { result ≡ may_be_of class.now pools.now reservations.now }
+{
+    match (class, reservations) {
+        (None, _) => true,
+        (Some(_), []) => are_for_each(pools),
+        (Some(_), _) => false,
+    }
+}
+
+// Reports whether each of these pools is for each client of its subnet.
+fn are_for_each(pools: &[Pool]) -> bool
+    ensures { result ≡ list_all is_for_each pools.now }
+{
+    pools.iter().all(|pool| pool.class.is_none())
+}
