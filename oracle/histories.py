@@ -157,14 +157,14 @@ class Client:
 def some_address(chance, root, rows, client):
     """An address that is likely to matter: of a row, of a pool or next to it, of a reservation, or a random one."""
     own = [row.address for row in rows if row.client == client.identity()]
-    pools = [judge.pool(entry["pool"]) for subnet in root["subnet4"] for entry in subnet["pools"]]
+    pools = [judge.pool(entry["pool"]) for subnet, _ in judge.subnets_of(root) for entry in subnet["pools"]]
     likely = [row.address for row in rows] + judge.all_reserved(root)
     likely += [each for first, last in pools for each in (first - 1, first, last, last + 1)]
     place = chance.random()
     if place < 0.03:
         return chance.randbytes(4)
     if place < 0.1:
-        ends = [each for subnet in root["subnet4"] for each in judge.prefix(subnet["subnet"])]
+        ends = [each for subnet, _ in judge.subnets_of(root) for each in judge.prefix(subnet["subnet"])]
         likely = [each + beside for each in ends for beside in (-1, 0, 1)]
     wanted = chance.choice(own) if own and place > 0.3 else chance.choice(likely or [0])
     return min(2**32 - 1, max(0, wanted)).to_bytes(4, "big")
@@ -177,7 +177,11 @@ def some_relay(chance, root):
         return bytes(4)
     if place < 0.63:
         return address("203.0.113.7")
-    first, last = judge.prefix(chance.choice(root["subnet4"])["subnet"])
+    subnet, network = chance.choice(judge.subnets_of(root))
+    relays = judge.relays_of(subnet, network)
+    if relays and place < 0.8:
+        return address(chance.choice(relays))
+    first, last = judge.prefix(subnet["subnet"])
     return min(last, first + chance.choice([0, 1, 9, 255])).to_bytes(4, "big")
 
 
@@ -256,7 +260,7 @@ def bad_line(chance, event):
     return event[:at] + chance.choice(["", " ", "g", "\r", "-", "00000000000000000000"]) + event[at + 1 :]
 
 
-def history(chance):
+def history(chance, configuration=configuration):
     """A configuration, events, and the result of judge.py: lines, rows, and the fault that ends them or None."""
     root = configuration(chance)
     clients = [Client(chance) for _ in range(chance.choice([2, 3, 4]))]
@@ -282,15 +286,21 @@ def table_moment(events):
     return min(event[0], judge.END_OF_TIME - 1) if event else 0
 
 
-def program_lines(program, folder, root, events, with_leases):
-    """The output of the program for the events, followed by the table if it is requested."""
-    path, store = os.path.join(folder, "config.json"), os.path.join(folder, "leases.db")
+def words_of(root, path):
+    """The words of the command line for a configuration, which is written to a file."""
     with open(path, "w", encoding="utf-8") as file:
         json.dump({"Dhcp4": root}, file)
+    return ["--config", path]
+
+
+def program_lines(program, folder, root, events, with_leases, words_of=words_of):
+    """The output of the program for the events, followed by the table if it is requested."""
+    path, store = os.path.join(folder, "config.json"), os.path.join(folder, "leases.db")
+    words = words_of(root, path)
     for suffix in ("", "-journal", "-wal"):
         if os.path.exists(store + suffix):
             os.remove(store + suffix)
-    words = ["--config", path] + (["--store", store] if with_leases else [])
+    words += ["--store", store] if with_leases else []
     text = "".join(f"{event}\n" for event in events)
     done = subprocess.run([program, "replay"] + words, input=text.encode(), capture_output=True, check=False)
     out = (done.stdout + done.stderr).decode().splitlines()
@@ -341,7 +351,7 @@ def show(differs, root, events):
     print(f"line {line + 1}\nprogram {came}\njudge   {wanted}")
 
 
-def main(history=history):
+def main(history=history, words_of=words_of):
     words = argparse.ArgumentParser()
     words.add_argument("seed", type=int)
     words.add_argument("count", type=int)
@@ -355,7 +365,7 @@ def main(history=history):
     with tempfile.TemporaryDirectory() as folder:
 
         def differs(root, events, judged):
-            came = program_lines(program, folder, root, events, words.leases)
+            came = program_lines(program, folder, root, events, words.leases, words_of)
             wanted = wanted_lines(events, judged, words.leases)
             at = first_difference(came, wanted)
             return None if at is None else (at, came[at : at + 1], wanted[at : at + 1])

@@ -130,13 +130,54 @@ def names_another_server(asked):
     return 54 in asked.found and number(asked.found[54]) != server_address(asked.root)
 
 
+def subnets_of(root):
+    """The subnets, each with its shared network or an empty one: those of networks first."""
+    shared = [(subnet, network) for network in root.get("shared-networks", []) for subnet in network["subnet4"]]
+    return shared + [(subnet, {}) for subnet in root.get("subnet4", [])]
+
+
+def class_of(subnet, network):
+    """The class of a subnet: its own, or else that of its network, or None."""
+    return subnet.get("client-class", network.get("client-class"))
+
+
+def has_class(name, held):
+    return name is None or name.encode() in held
+
+
+def relays_of(subnet, network):
+    """The relays of a subnet: its own, or else those of its network."""
+    return (subnet.get("relay") or network.get("relay") or {}).get("ip-addresses", [])
+
+
+def contains(subnet, wanted):
+    first, last = prefix(subnet["subnet"])
+    return first <= wanted <= last
+
+
+def home_of(subnet, network):
+    """What serves where a subnet does: itself, or its network with the pools and the reservations of all its subnets."""
+    if not network:
+        return subnet
+    parts = network["subnet4"]
+    pools_of_parts = [{"client-class": class_of(part, network), **entry} for part in parts for entry in part.get("pools", [])]
+    reservations = [entry for part in parts for entry in part.get("reservations", [])]
+    return {"parts": parts, "network": network, "pools": pools_of_parts, "reservations": reservations}
+
+
+def parts_of(home):
+    """The subnets of what serves."""
+    return home.get("parts", [home])
+
+
 def subnet_of(root, datagram, held):
-    """The first subnet that contains the message's place and has no class or one of the client's, or None."""
-    place = number(datagram[24:28]) or number(datagram[12:16]) or server_address(root)
-    for subnet in root.get("subnet4", []):
-        first, last = prefix(subnet["subnet"])
-        if first <= place <= last and ("client-class" not in subnet or subnet["client-class"].encode() in held):
-            return subnet
+    """What serves a message: where the first subnet is that admits the client and names its relay, or else contains its place."""
+    relay = number(datagram[24:28])
+    place = relay or number(datagram[12:16]) or server_address(root)
+    admitted = [(subnet, network) for subnet, network in subnets_of(root) if has_class(class_of(subnet, network), held)]
+    named = [each for each in admitted if relay and dotted(datagram[24:28]) in relays_of(*each)]
+    for subnet, network in named or [each for each in admitted if contains(each[0], place)]:
+        return home_of(subnet, network)
     return None
 
 
@@ -185,12 +226,13 @@ def reserved(asked):
 
 def all_reserved(root):
     """The addresses of all reservations of all subnets."""
-    entries = [entry for subnet in root.get("subnet4", []) for entry in subnet.get("reservations", [])]
+    entries = [entry for subnet, _ in subnets_of(root) for entry in subnet.get("reservations", [])]
     return [number(address(entry["ip-address"])) for entry in entries]
 
 
 def pools(asked):
-    return [pool(entry["pool"]) for entry in asked.subnet.get("pools", [])]
+    """The pools that the client may have addresses of."""
+    return [pool(entry["pool"]) for entry in asked.subnet.get("pools", []) if has_class(entry.get("client-class"), asked.held)]
 
 
 def fits(asked, wanted):
@@ -286,10 +328,10 @@ def renewing(asked):
         return "7 NoRequested", None
     if asked.subnet is None:
         return "5 NoSubnet", None
-    first, last = prefix(asked.subnet["subnet"])
-    if not first <= wanted <= last:
+    parts = parts_of(asked.subnet)
+    if not any(contains(part, wanted) for part in parts):
         return Plan("NAK", 0), None
-    if not any(first <= row.address <= last for row in asked.rows.of(asked.client)):
+    if not any(contains(part, row.address) for row in asked.rows.of(asked.client) for part in parts):
         return "9 NoRecord", None
     row = row_of(asked, wanted)
     if row is not None and row.client == asked.client and fits(asked, wanted):
@@ -342,12 +384,22 @@ def times(root):
     return b"".join(written(code, value.to_bytes(4, "big")) for code, value in zip((51, 58, 59), values))
 
 
+def given_by(home, at):
+    """What gives options at an address: of a network the subnet that has it, with the network's options after its own."""
+    if "parts" not in home:
+        return home
+    part = ([each for each in home["parts"] if contains(each, at)] + [{"subnet": home["parts"][0]["subnet"]}])[0]
+    is_one = any(part is each for each in home["parts"])
+    options = part.get("option-data", []) + (home["network"].get("option-data", []) if is_one else [])
+    return {"subnet": part["subnet"], "pools": home["pools"], "option-data": options}
+
+
 def configured(asked, plan):
     """The configured options for the client, encoded, in the order of their codes."""
     if plan.kind == "NAK":
         return []
     at = ciaddr(asked) if plan.kind == "INFORMED" else plan.yiaddr
-    values = given(asked.root, asked.subnet, asked.held, at)
+    values = given(asked.root, given_by(asked.subnet, at), asked.held, at)
     return [written(code, values[code]) for code in sorted(values) if 55 not in asked.found or code in asked.found[55]]
 
 
