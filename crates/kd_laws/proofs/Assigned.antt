@@ -31,11 +31,11 @@ pools_32 : (names : List (List ℕ)) (pools : List Pool) (a : ℕ) → AllByRecu
 pools_32 names [] a each inside = absurd (false≢true inside)
 pools_32 names (pool ∷ pools) a each inside =
     ⊎_elim (λ here. one (and_parts (class_admits pool.class names) (has pool.range a) here).1) (pools_32 names pools a each.1) (or_cases (pool_gives names pool a) (list_any (λ p. pool_gives names p a) pools) inside) where
-    one : has pool.range a ≡ true → a < 2 ^ 32
-    one here =
-        let below = leb-true a pool.range.last (and_parts (nat_le pool.range.first a) (nat_le a pool.range.last) here).1 in
-        let last = each.0.last in
-        omega (arith, last, below)
+      one : has pool.range a ≡ true → a < 2 ^ 32
+      one here =
+          let below = leb-true a pool.range.last (and_parts (nat_le pool.range.first a) (nat_le a pool.range.last) here).1 in
+          let last = each.0.last in
+          omega (arith, last, below)
 
 -- so has an address that is reserved
 same_32 : (r : Option Reservation) (a : ℕ) → IfSome r ServesClient → same_address (option_map (λ x. x.address) r) a ≡ true → a < 2 ^ 32

@@ -89,9 +89,10 @@ clients_serve prefix earlier clients [] is may each = tt
 clients_serve prefix earlier clients (r ∷ rs) is may each =
     let more = may_all_reserve prefix (earlier ++ r.address ∷ []) (clients ++ r.identity ∷ []) rs in
     let parts = and_parts (may_reserve prefix earlier r) (is_new clients r.identity && more) may in
-    let here = and_parts (has_address prefix r.address) (not (list_any (nat_eq r.address) earlier)) parts.0 in
-    (record { options = each.0.options; address = within_32 prefix r.address is here.0 },
-    clients_serve prefix (earlier ++ r.address ∷ []) (clients ++ r.identity ∷ []) rs is (and_parts (is_new clients r.identity) more parts.1).1 each.1)
+    let here = and_parts (has_address prefix r.address) (not (list_any (nat_eq r.address) earlier)) parts.0 in (
+      record { options = each.0.options; address = within_32 prefix r.address is here.0 },
+      clients_serve prefix (earlier ++ r.address ∷ []) (clients ++ r.identity ∷ []) rs is (and_parts (is_new clients r.identity) more parts.1).1 each.1,
+    )
 
 -- a subnet that obeys the rules serves
 obeying : (earlier : List ℕ) (s : Subnet) → IsSubnet s → obeys earlier s ≡ true → Serves s
