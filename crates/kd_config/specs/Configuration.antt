@@ -1,18 +1,31 @@
 -- A server's configuration, and the built-in one.
-use Rattle.std.specs.Prelude.{ℕ, List, [], ◌∷◌, None}
+use Rattle.std.specs.Prelude.{ℕ, Bool, true, false, List, [], ◌∷◌, None}
 use Rattle.kd_classes.specs.declared.definition.ClassDef.{ClassDef}
 use Rattle.kd_classes.specs.declared.option_list.OptionData.{OptionData}
+use Rattle.kd_config.specs.declared.extensions.Extensions.{Extensions}
 use Rattle.kd_config.specs.declared.pool.Pool.{Pool}
 use Rattle.kd_config.specs.declared.subnet.Subnet.{Subnet}
 use Rattle.kd_config.specs.declared.times.Times.{Times}
 
--- a configuration: the server's address, times, options, classes in order, and subnets
+-- a configuration: the server's address, times, extensions of the rules, options, classes in order,
+-- and subnets
 pub record Configuration : Type 0 where
   pub server : ℕ
   pub times : Times
+  pub extensions : Extensions
   pub options : List OptionData
   pub classes : List ClassDef
   pub subnets : List Subnet
+
+-- the rules of a configuration in our own format are not extended
+abbrev pub no_extensions : Extensions
+no_extensions =
+    record { selects_links = false; keeps_leases = false; hides_identifiers = false }
+
+-- the extensions that a configuration of Kea's has, whose replies may hide the client identifier
+abbrev pub extensions_of_kea : Bool → Extensions
+extensions_of_kea hides =
+    record { selects_links = true; keeps_leases = true; hides_identifiers = hides }
 
 -- the times of the built-in configuration
 abbrev pub times_built_in : Times
@@ -42,6 +55,7 @@ builtin_config =
     record {
       server = 0xc0000201;
       times = times_built_in;
+      extensions = no_extensions;
       options = [];
       classes =
           [];

@@ -2,6 +2,7 @@ ghost use Rattle.std.specs.Prelude.{◌≡◌, [], IfOk};
 ghost use Rattle.kd_config.specs.Configuration.{builtin_config, subnet_built_in, times_built_in};
 
 use crate::config::Config;
+use crate::extensions::Extensions;
 use crate::pool::Pool;
 use crate::prefix::Prefix;
 use crate::range::Range;
@@ -29,6 +30,7 @@ impl Config {
             alloc,
             0xc000_0201,
             builtin_times(),
+            Extensions::none(),
             OptionList::own(Vec::new(alloc)),
             no_classes(alloc),
             Entries::own(subnets),

@@ -3,6 +3,7 @@ ghost use Rattle.std.specs.Option.{option_copied};
 ghost use Rattle.kd_config.specs.Networks.{covers, home_of, network_at, part_holding};
 ghost use Rattle.kd_config.specs.Sound.{IsSound};
 
+use crate::extensions::Extensions;
 use crate::networks::{has_in, networks_of, part_of};
 use crate::subnet::Subnet;
 use crate::times::Times;
@@ -17,6 +18,7 @@ use std::marker::Model;
 pub struct Config {
     server: u32,
     times: Times,
+    extensions: Extensions,
     options: OptionList,
     classes: Classes,
     subnets: Entries<Subnet>,
@@ -35,6 +37,7 @@ impl Model for Config {
     ghost view = { λ c. record {
       server = c.server;
       times = c.times;
+      extensions = c.extensions;
       options = c.options;
       classes = c.classes;
       subnets = c.subnets;
@@ -43,6 +46,7 @@ impl Model for Config {
     ghost invariant = { λ c. IsSound (record {
       server = c.server;
       times = c.times;
+      extensions = c.extensions;
       options = c.options;
       classes = c.classes;
       subnets = c.subnets;
@@ -59,6 +63,7 @@ impl Config {
         alloc: Global,
         server: u32,
         times: Times,
+        extensions: Extensions,
         options: OptionList,
         classes: Classes,
         subnets: Entries<Subnet>,
@@ -66,6 +71,7 @@ impl Config {
         requires { IsSound (record {
           server = server;
           times = times;
+          extensions = extensions;
           options = options;
           classes = classes;
           subnets = subnets;
@@ -73,6 +79,7 @@ impl Config {
         ensures { IfOk result (λ config. config ≡ record {
           server = server;
           times = times;
+          extensions = extensions;
           options = options;
           classes = classes;
           subnets = subnets;
@@ -82,6 +89,7 @@ impl Config {
         Ok(Config {
             server,
             times,
+            extensions,
             options,
             classes,
             subnets,
@@ -103,6 +111,14 @@ impl Config {
         ensures sound { IsSound self.now }
     {
         self.times
+    }
+
+    /// Returns the extensions of the rules.
+    pub fn extensions(&self) -> Extensions
+        ensures same { result ≡ self.now.extensions }
+        ensures sound { IsSound self.now }
+    {
+        self.extensions
     }
 
     /// Returns the options of all replies: at most 64, with no code twice.

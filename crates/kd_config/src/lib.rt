@@ -1,7 +1,8 @@
 //! The configuration that a server runs with, whoever wrote it down.
 //!
-//! What this layer promises to the one above: a `Config` is a server address, times, options of all
-//! replies, classes and subnets (`specs/Configuration.antt`), and its accessors return these parts.
+//! What this layer promises to the one above: a `Config` is a server address, times, extensions of
+//! the rules, options of all replies, classes and subnets (`specs/Configuration.antt`), and its
+//! accessors return these parts.
 //! Every one is sound: each value is in its range, each list is within its limit, the subnets obey
 //! the rules over the whole (`specs/Rules.antt`), and the classes are in order with tests that are
 //! accepted programs (`specs/Sound.antt`). `Config::of` makes one of parts that are sound together,
@@ -12,6 +13,7 @@
 mod builtin;
 mod config;
 mod copies;
+mod extensions;
 pub mod laws;
 mod networks;
 mod pool;
@@ -24,6 +26,7 @@ mod times;
 
 pub use config::Config;
 pub use copies::{class_copied, options_copied};
+pub use extensions::Extensions;
 pub use kd_wire::Entries;
 pub use pool::Pool;
 pub use prefix::Prefix;

@@ -1,14 +1,14 @@
 -- The lines of what the rules check (RFC 2131 section 4.3), up to the check at which a message
 -- ends.
 use Rattle.std.specs.Prelude.{◌≡◌, ℕ, ◌==◌, nat_lt, Bool, if◌then◌else◌, List, [], ◌∷◌, ◌++◌, Option, Some, None, Result, Err, codes}
-use Rattle.std.specs.List.{flat_map, list_any}
-use Rattle.kd_config.specs.Apart.{has}
+use Rattle.std.specs.List.{flat_map}
 use Rattle.kd_config.specs.declared.subnet.Subnet.{Subnet}
 use Rattle.kd_event.specs.declared.reason.Reason.{Reason}
 use Rattle.kd_event.specs.declared.reason.Reason.TheVariants as reasons
-use Rattle.kd_lease.specs.Choice.{Asking, address_reserved, pooled, reserved_anywhere, same_address}
-use Rattle.kd_lease.specs.Client.{kind_of}
-use Rattle.kd_lease.specs.Rules.{IsAbout, checks_in, ending, fails, holds_at, named_server, passes, passes_in, rule_of, serving_subnet}
+use Rattle.kd_lease.specs.Choice.{Asking, address_reserved, contained, pooled, reserved_anywhere, same_address}
+use Rattle.kd_lease.specs.Client.{kind_of, named_server}
+use Rattle.kd_lease.specs.Kept.{passes}
+use Rattle.kd_lease.specs.Rules.{IsAbout, checks_in, ending, fails, holds_at, kept_subnet, passes_in, rule_of, serving_subnet}
 use Rattle.kd_lease.specs.declared.plan.Plan.{Plan}
 use Rattle.kd_lease.specs.declared.rule.Check.{Check}
 use Rattle.kd_lease.specs.declared.rule.Check.TheVariants as checks
@@ -113,10 +113,6 @@ abbrev pub owner_line : Bool → List ℕ
 owner_line is_own =
     if is_own then codes "check owner: the client\n" else codes "check owner: not the client\n"
 
--- a pool of the subnet contains the address, whoever may have it
-abbrev pub is_inside : Subnet → ℕ → Bool
-is_inside s a = list_any (λ pool. has pool.range a) s.pools
-
 -- whether a pool has the address for the client, or contains it for others
 abbrev pub pool_word : Bool → Bool → List ℕ
 pool_word is_given is_in =
@@ -132,7 +128,7 @@ reserved_word is_its is_reserved =
 -- the pool and the reservation of the address in the subnet that serves the message
 abbrev pub place_words : Asking → Option Subnet → Option ℕ → List ℕ
 place_words q s a =
-    pool_word (passes_in (pooled q.names) s a) (passes_in is_inside s a) ++ codes ", "
+    pool_word (passes_in (pooled q.names) s a) (passes_in contained s a) ++ codes ", "
     ++ reserved_word (passes_in (λ t b. same_address (address_reserved q.message t) b) s a)
     (passes (reserved_anywhere q.config) a)
 
@@ -143,6 +139,16 @@ fit_words is_fit = codes "check fits: " ++ yes_word is_fit ++ codes ", "
 -- whether the address fits
 unfoldable pub fits_line : Bool → Asking → Option ℕ → List ℕ
 fits_line is_fit q a = fit_words is_fit ++ (place_words q (serving_subnet q) a ++ codes "\n")
+
+-- whether the client keeps the lease that it renews, and the end of the line
+abbrev pub kept_words : Option Subnet → List ℕ
+kept_words None = codes "\n"
+kept_words (Some s) = codes ", the client keeps its lease\n"
+
+-- whether the address may be renewed
+unfoldable pub lasts_line : Bool → Asking → Option ℕ → List ℕ
+lasts_line lasts q a =
+    fit_words lasts ++ (place_words q (serving_subnet q) a ++ kept_words (kept_subnet q))
 
 -- whether the address is free for the client
 abbrev pub free_line : Bool → List ℕ
@@ -164,6 +170,7 @@ rule_line q rule a checks.Prefix = prefix_line (holds_at q a checks.Prefix)
 rule_line q rule a checks.Client = known_line (holds_at q a checks.Client)
 rule_line q rule a checks.Owner = row_line_at q a ++ owner_line (holds_at q a checks.Owner)
 rule_line q rule a checks.Fits = fits_line (holds_at q a checks.Fits) q a
+rule_line q rule a checks.Lasts = lasts_line (holds_at q a checks.Lasts) q a
 rule_line q rule a checks.Free = row_line_at q a ++ free_line (holds_at q a checks.Free)
 rule_line q rule a checks.Held = row_line_at q a ++ held_line (holds_at q a checks.Held)
 

@@ -1,5 +1,6 @@
 -- The explanation of a message: each part as the rules of leases and of classes define it.
 use Rattle.std.specs.Prelude.{◌≡◌, ℕ, List, Option, None, Some, option_copied}
+use Rattle.std.specs.Option.{option_or}
 use Rattle.kd_classes.specs.HeldSet.{HeldSet}
 use Rattle.kd_config.specs.Configuration.{Configuration}
 use Rattle.kd_config.specs.declared.reservation.Reservation.{Reservation}
@@ -8,6 +9,7 @@ use Rattle.kd_lease.specs.Change.{Decides, asked_for}
 use Rattle.kd_lease.specs.Choice.{Asking, client_reservation}
 use Rattle.kd_lease.specs.Client.{client_identity}
 use Rattle.kd_lease.specs.Decided.{IsAnswerTo, outcome_in}
+use Rattle.kd_lease.specs.Kept.{kept_in}
 use Rattle.kd_lease.specs.Ranks.{AreRanks}
 use Rattle.kd_lease.specs.SubnetOf.{subnet_serving}
 use Rattle.kd_lease.specs.declared.ranks.Ranks.{Ranks}
@@ -34,6 +36,11 @@ abbrev pub AreFoundFor : Option (List ℕ) → (List ℕ → Asking) → Option 
 AreFoundFor None asks s found = found ≡ None
 AreFoundFor (Some client) asks s found = AreFoundIn (asks client) s found
 
+-- the subnet in which a client keeps the lease that it renews, if the message has a client that does
+abbrev pub kept_for : Option (List ℕ) → Configuration → List Row → Seen → ℕ → Option Subnet
+kept_for None config rows m now = None
+kept_for (Some client) config rows m now = kept_in config rows m now client
+
 -- an explanation of a message at a time, over a configuration and rows: its parts are those of the
 -- rules
 pub record Explains (config : Configuration) (rows : List Row) (m : Seen) (now : ℕ)
@@ -42,7 +49,9 @@ pub record Explains (config : Configuration) (rows : List Row) (m : Seen) (now :
   pub tested : AreTested m config.classes (base_names (value_of 60 m.options)) e.outcomes.items
       e.names
   pub held : HeldSet m config.classes e.names
-  pub subnet : option_copied e.subnet ≡ subnet_serving config e.names m.header
+  pub kept : option_copied e.kept ≡ kept_for (client_identity m) config rows m now
+  pub subnet : option_copied e.subnet
+      ≡ option_or (option_copied e.kept) (subnet_serving config e.names m)
   pub reservation : IsReservedIn m (option_copied e.subnet) (option_copied e.reservation)
   pub ranks : AreFoundFor (client_identity m) (asked_for config rows e.names m now)
       (option_copied e.subnet) e.ranks

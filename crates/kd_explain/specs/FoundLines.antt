@@ -10,10 +10,9 @@ use Rattle.kd_config.specs.declared.reservation.Reservation.{Reservation}
 use Rattle.kd_config.specs.declared.subnet.Subnet.{Subnet}
 use Rattle.kd_event.specs.declared.reason.Reason.{Reason}
 use Rattle.kd_event.specs.declared.reason.Reason.TheVariants as reasons
-use Rattle.kd_lease.specs.Choice.{requested_address}
-use Rattle.kd_lease.specs.Client.{kind_of}
-use Rattle.kd_lease.specs.Rules.{named_server}
-use Rattle.kd_lease.specs.SubnetOf.{has_place, is_by_relay, message_place, served_by}
+use Rattle.kd_lease.specs.Client.{kind_of, named_server, requested_address}
+use Rattle.kd_lease.specs.Kept.{has_to_keep}
+use Rattle.kd_lease.specs.SubnetOf.{has_place, is_by_relay, link_of, message_place, served_by}
 use Rattle.kd_lease.specs.declared.plan.Plan.{Plan}
 use Rattle.kd_lease.specs.declared.ranks.Ranks.{Ranks}
 use Rattle.kd_machine.specs.declared.run.Outcome.{Outcome}
@@ -89,17 +88,22 @@ names_line names = codes "classes" ++ flat_map name_behind names ++ codes "\n"
 
 -- ---- its place and its subnet
 
--- what the place of a message is taken from
-abbrev pub place_word : Header → List ℕ
-place_word h =
+-- what the place of a message with this header is taken from, where its relay selects no link
+abbrev pub header_word : Header → List ℕ
+header_word h =
     if not (h.giaddr == 0) then codes "relay"
     else if not (h.ciaddr == 0) then codes "ciaddr" else codes "server"
 
+-- what the place of a message is taken from, by the link that its relay selects
+abbrev pub place_word : Option ℕ → Header → List ℕ
+place_word None h = header_word h
+place_word (Some link) h = codes "link"
+
 -- the line of the place that a message comes from
-unfoldable pub place_line : ℕ → Header → List ℕ
-place_line server h =
-    codes "place " ++ address_text (message_place server h) ++ codes " " ++ place_word h
-    ++ codes "\n"
+unfoldable pub place_line : Configuration → Seen → List ℕ
+place_line config m =
+    codes "place " ++ address_text (message_place config m) ++ codes " "
+    ++ place_word (link_of config m) m.header ++ codes "\n"
 
 -- the line of a subnet: its prefix, and whether it serves
 unfoldable pub sought_line : Subnet → List ℕ → List ℕ
@@ -143,6 +147,24 @@ sought_lines by_relay place names (s ∷ subnets) =
     if served_by by_relay place names s
     then sought_line s (codes " serves") ++ flat_map (later_line s) subnets
     else sought_line s (passed_words by_relay place s) ++ sought_lines by_relay place names subnets
+
+-- what a subnet is to an address whose lease is kept
+abbrev pub keeping_words : Bool → List ℕ
+keeping_words has_it =
+    if has_it then codes " has the address, whose lease the client keeps"
+    else codes " does not have the address"
+
+-- the line of a subnet for such an address
+abbrev pub keeping_line : ℕ → Subnet → List ℕ
+keeping_line a s = sought_line s (keeping_words (has_to_keep a s))
+
+-- the lines of the subnets: for the lease that the client keeps in one of them, or else for the place
+-- and the classes of the message
+abbrev pub subnet_lines : Option Subnet → Configuration → List (List ℕ) → Seen → List ℕ
+subnet_lines None config names m =
+    sought_lines (is_by_relay config names m) (message_place config m) names config.subnets
+subnet_lines (Some kept) config names m =
+    flat_map (keeping_line m.header.ciaddr) config.subnets
 
 -- ---- its reservation
 
@@ -216,8 +238,7 @@ unfoldable pub found_text : Configuration → Seen → ℕ → Explanation → L
 found_text config m now e =
     message_lines now m e.client
     ++ (class_lines config.classes e.outcomes.items ++ names_line e.names)
-    ++ place_line config.server m.header
-    ++ sought_lines (is_by_relay config e.names m.header) (message_place config.server m.header)
-    e.names config.subnets
+    ++ place_line config m
+    ++ subnet_lines (option_copied e.kept) config e.names m
     ++ reservation_line (option_copied e.subnet) (option_copied e.reservation)
     ++ chosen_text m e.decision.answer e.ranks

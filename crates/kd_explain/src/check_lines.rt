@@ -6,8 +6,8 @@ ghost use Rattle.kd_explain.specs.FoundLines.{reaches_rule};
 ghost use Rattle.kd_explain.specs.Account.{IsCheckedText};
 
 use crate::finding_lines::{
-    put_address_found, put_client_found, put_fits, put_free, put_held, put_offer, put_owner,
-    put_prefix_found, put_row_found, put_sender, put_server, put_subnet_found,
+    put_address_found, put_client_found, put_fits, put_free, put_held, put_lasts, put_offer,
+    put_owner, put_prefix_found, put_row_found, put_sender, put_server, put_subnet_found,
 };
 use crate::text::Scene;
 use kd_event::Reason;
@@ -156,6 +156,7 @@ fn put_check(
             put_owner(out, holds(matter, check))
         }
         Check::Fits => put_fits(out, matter, holds(matter, check)),
+        Check::Lasts => put_lasts(out, matter, holds(matter, check)),
         Check::Free => {
             put_row_found(alloc, out, matter)?;
             put_free(out, holds(matter, check))

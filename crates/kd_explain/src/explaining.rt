@@ -1,12 +1,13 @@
 ghost use Rattle.std.specs.Prelude.{◌≡◌, ◌<◌, ◌≤◌, ◌^◌, IfOk, None, length, option_copied};
 ghost use Rattle.kd_lease.specs.Change.{asked_for};
 ghost use Rattle.kd_lease.specs.Rules.{asking};
-ghost use Rattle.kd_explain.specs.Explaining.{AreFoundFor, AreFoundIn, Explains, IsReservedIn};
+ghost use Rattle.kd_explain.specs.Explaining.{AreFoundFor, AreFoundIn, Explains, IsReservedIn, kept_for};
 
 use crate::classes::{Trace, trace_classes};
 use kd_config::{Config, Reservation, Subnet};
 use kd_lease::{
-    Decision, Ground, Question, Ranks, decide, identity, ranks_of, reservation_of, subnet_of,
+    Decision, Ground, Question, Ranks, decide, identity, ranks_of, reservation_of, subnet_kept,
+    subnet_or,
 };
 use kd_machine::{Held, Outcome};
 use kd_options::Message;
@@ -24,6 +25,8 @@ pub struct Explanation<'a> {
     pub outcomes: Vec<Option<Outcome>>,
     /// The names of the classes that the message is in.
     pub names: Held,
+    /// The subnet in which its client keeps the lease that it renews, if it does.
+    pub kept: Option<&'a Subnet>,
     /// The subnet that serves it, if one does. A shared network serves as one subnet.
     pub subnet: Option<&'a Subnet>,
     /// The reservation for its client in that subnet, if there is one.
@@ -52,7 +55,8 @@ pub fn explain<'a>(
 {
     let Trace { outcomes, names } = trace_classes(alloc, config.classes(), message)?;
     let client = identity(alloc, message)?;
-    let subnet = subnet_of(config, &names, message.header());
+    let kept = subnet_kept_for(Ground::of(config, rows), message, &client, moment);
+    let subnet = subnet_or(kept, config, &names, message);
     let reservation = reservation_in(message, subnet);
     let asked = Asked {
         config,
@@ -66,11 +70,29 @@ pub fn explain<'a>(
         client,
         outcomes,
         names,
+        kept,
         subnet,
         reservation,
         ranks,
         decision,
     })
+}
+
+// Returns the subnet in which a client keeps the lease that it renews, if the message has a client that
+// does.
+fn subnet_kept_for<'a>(
+    over: Ground<'a>,
+    message: &Message<'_>,
+    client: &Option<Bytes>,
+    moment: u64,
+) -> Option<&'a Subnet>
+    ensures { option_copied result ≡ kept_for client.now over.entry.config.now
+        over.entry.rows.now.rows message.now moment }
+{
+    match client {
+        Some(client) => subnet_kept(over, message, client.as_slice(), moment),
+        None => None,
+    }
 }
 
 // Returns the reservation for the client of a message in a subnet, if there is one.

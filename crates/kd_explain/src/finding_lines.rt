@@ -1,17 +1,16 @@
 ghost use Rattle.std.specs.Prelude.{◌≡◌, ◌++◌, OnOk, Some, codes, option_copied, string_bytes};
-ghost use Rattle.std.specs.List.{list_any};
-ghost use Rattle.kd_config.specs.Apart.{has};
-ghost use Rattle.kd_lease.specs.Choice.{address_reserved, pooled, reserved_anywhere, same_address};
-ghost use Rattle.kd_lease.specs.Rules.{asking, passes, passes_in, serving_subnet};
+ghost use Rattle.kd_lease.specs.Choice.{address_reserved, contained, pooled, reserved_anywhere, same_address};
+ghost use Rattle.kd_lease.specs.Kept.{passes};
+ghost use Rattle.kd_lease.specs.Rules.{asking, passes_in, serving_subnet};
 ghost use Rattle.kd_listing.specs.Leases.{word_of_live};
 ghost use Rattle.kd_text.specs.Text.{address_text};
-ghost use Rattle.kd_explain.specs.CheckLines.{address_line, address_source, fit_words, fits_line, free_line, held_line, is_inside, known_line, network_word, offer_line, owner_line};
+ghost use Rattle.kd_explain.specs.CheckLines.{address_line, address_source, fit_words, fits_line, free_line, held_line, kept_words, known_line, lasts_line, network_word, offer_line, owner_line};
 ghost use Rattle.kd_explain.specs.CheckLines.{place_words, pool_word, prefix_line, renewed_source, reserved_word, row_line_at, row_words};
 ghost use Rattle.kd_explain.specs.CheckLines.{sender_line, served_line, served_word, server_line, which_word};
 
 use crate::words::{type_name, yes_or_no};
 use kd_config::Subnet;
-use kd_lease::{Matter, Question, Rule, in_pools, is_reserved, reservation_of};
+use kd_lease::{Matter, Question, Rule, contains, in_pools, is_reserved, reservation_of};
 use kd_listing::put_row;
 use kd_options::Message;
 use kd_rows::Row;
@@ -283,6 +282,33 @@ pub(crate) fn put_fits(
     Ok(())
 }
 
+// Prints whether an address may be renewed: where it is, whom it is reserved for, and whether the
+// client keeps its lease.
+#[tactic(auto, unfolding(crate::specs::CheckLines::lasts_line))]
+pub(crate) fn put_lasts(
+    out: &mut String,
+    matter: &Matter<'_>,
+    lasts: bool,
+) -> Result<(), AllocError>
+    ensures { OnOk result (string_bytes out.new ≡ string_bytes out.old
+        ++ lasts_line lasts (asking matter.now.question.now) matter.now.address) }
+{
+    put_fit(out, lasts)?;
+    put_places(out, matter.question, matter.address)?;
+    out.push_str(kept_phrase(matter.question.kept))?;
+    Ok(())
+}
+
+// Returns the end of the line, with what is said of the lease that a client keeps.
+fn kept_phrase(kept: Option<&Subnet>) -> &'static str
+    ensures { result.now ≡ kept_words (option_copied kept.entry) }
+{
+    match kept {
+        Some(_) => ", the client keeps its lease\n",
+        None => "\n",
+    }
+}
+
 fn put_fit(out: &mut String, is_fit: bool) -> Result<(), AllocError>
     ensures { OnOk result (string_bytes out.new ≡ string_bytes out.old ++ fit_words is_fit) }
 {
@@ -311,7 +337,7 @@ fn put_places(
 fn pool_phrase(question: &Question<'_>, address: Option<u32>) -> &'static str
     ensures { let q = asking question.now in
         result.now ≡ pool_word (passes_in (pooled q.names) (serving_subnet q) address)
-        (passes_in is_inside (serving_subnet q) address) }
+        (passes_in contained (serving_subnet q) address) }
 {
     if is_given(question, address) {
         "in a pool"
@@ -336,22 +362,12 @@ fn is_given(question: &Question<'_>, address: Option<u32>) -> bool
 // Reports whether a pool of the subnet that serves a message contains an address, whoever may have
 // it.
 fn is_in_range(question: &Question<'_>, address: Option<u32>) -> bool
-    ensures { result ≡ passes_in is_inside (serving_subnet (asking question.now)) address }
+    ensures { result ≡ passes_in contained (serving_subnet (asking question.now)) address }
 {
     match (question.subnet, address) {
         (Some(subnet), Some(address)) => contains(subnet, address),
         _ => false,
     }
-}
-
-fn contains(subnet: &Subnet, address: u32) -> bool
-    ensures { result ≡ is_inside subnet.now address }
-{
-    subnet
-        .pools
-        .as_slice()
-        .iter()
-        .any(|pool| pool.range.contains(address))
 }
 
 fn reserved_phrase(question: &Question<'_>, address: Option<u32>) -> &'static str

@@ -1,14 +1,15 @@
 ghost use Rattle.std.specs.Prelude.{◌≡◌, ◌++◌, OnOk, codes, option_copied, string_bytes};
 ghost use Rattle.std.specs.List.{flat_map};
 ghost use Rattle.kd_lease.specs.SubnetOf.{is_by_relay, message_place};
-ghost use Rattle.kd_explain.specs.FoundLines.{class_word, elsewhere_words, key_word, later_line, later_words, passed_words, place_line, place_word};
-ghost use Rattle.kd_explain.specs.FoundLines.{reservation_line, reserved_line, shares_network, sought_line, sought_lines};
+ghost use Rattle.kd_explain.specs.FoundLines.{class_word, elsewhere_words, header_word, keeping_line, keeping_words, key_word, later_line, later_words, passed_words, place_line, place_word};
+ghost use Rattle.kd_explain.specs.FoundLines.{reservation_line, reserved_line, shares_network, sought_line, sought_lines, subnet_lines};
 
 use crate::text::Scene;
 use crate::words::put_name;
-use kd_config::{Identity, Reservation, Subnet};
-use kd_lease::{comes_by_relay, is_at, place_of, serves};
+use kd_config::{Config, Identity, Reservation, Subnet};
+use kd_lease::{comes_by_relay, is_at, is_to_keep, link_selected, place_of, serves};
 use kd_machine::Held;
+use kd_options::Message;
 use kd_text::{put_address, put_prefix};
 use kd_wire::{Bytes, Header};
 use std::alloc::{AllocError, Global};
@@ -16,25 +17,41 @@ use std::alloc::{AllocError, Global};
 // Prints the place that the message comes from, and what it was taken from.
 pub(crate) fn put_place(out: &mut String, scene: &Scene<'_>) -> Result<(), AllocError>
     ensures { OnOk result (string_bytes out.new ≡ string_bytes out.old
-        ++ place_line scene.now.config.now.server scene.now.message.now.header) }
+        ++ place_line scene.now.config.now scene.now.message.now) }
 {
-    put_place_of(out, scene.config.server(), scene.message.header())
+    put_place_of(out, scene.config, scene.message)
 }
 
 #[tactic(auto, unfolding(crate::specs::FoundLines::place_line))]
-fn put_place_of(out: &mut String, server: u32, header: &Header) -> Result<(), AllocError>
+fn put_place_of(
+    out: &mut String,
+    config: &Config,
+    message: &Message<'_>,
+) -> Result<(), AllocError>
     ensures { OnOk result (string_bytes out.new
-        ≡ string_bytes out.old ++ place_line server header.now) }
+        ≡ string_bytes out.old ++ place_line config.now message.now) }
 {
     out.push_str("place ")?;
-    put_address(out, place_of(server, header))?;
+    put_address(out, place_of(config, message))?;
     out.push_str(" ")?;
-    out.push_str(place_source(header))?;
+    out.push_str(place_source(
+        link_selected(config, message),
+        message.header(),
+    ))?;
     out.push_str("\n")
 }
 
-fn place_source(header: &Header) -> &'static str
-    ensures { result.now ≡ place_word header.now }
+fn place_source(link: Option<u32>, header: &Header) -> &'static str
+    ensures { result.now ≡ place_word link header.now }
+{
+    match link {
+        Some(_) => "link",
+        None => header_source(header),
+    }
+}
+
+fn header_source(header: &Header) -> &'static str
+    ensures { result.now ≡ header_word header.now }
 {
     if header.giaddr != 0 {
         "relay"
@@ -54,19 +71,64 @@ struct Sought<'a> {
     names: &'a Held,
 }
 
-// Prints a line for each subnet: those that are passed over, and why; the first that serves the
-// message; and those after it.
+// Prints a line for each subnet: which has the address whose lease the client keeps, if it does so;
+// otherwise those that are passed over, and why, the first that serves the message, and those after
+// it.
 pub(crate) fn put_subnets(out: &mut String, scene: &Scene<'_>) -> Result<(), AllocError>
     ensures { OnOk result (string_bytes out.new ≡ string_bytes out.old
+        ++ subnet_lines (option_copied scene.now.explanation.now.kept) scene.now.config.now
+        scene.now.explanation.now.names scene.now.message.now) }
+{
+    match scene.explanation.kept {
+        Some(_) => put_keeping(out, scene.message.header().ciaddr, scene.config.subnets()),
+        None => put_by_place(out, scene),
+    }
+}
+
+// Prints the lines of the subnets for an address whose lease the client keeps.
+fn put_keeping(out: &mut String, address: u32, subnets: &[Subnet]) -> Result<(), AllocError>
+    ensures { OnOk result (string_bytes out.new
+        ≡ string_bytes out.old ++ flat_map (keeping_line address) subnets.now) }
+{
+    for subnet in subnets {
+        put_one_keeping(out, address, subnet)?;
+    }
+    Ok(())
+}
+
+#[tactic(auto, unfolding(crate::specs::FoundLines::sought_line))]
+fn put_one_keeping(out: &mut String, address: u32, subnet: &Subnet) -> Result<(), AllocError>
+    ensures { OnOk result (string_bytes out.new
+        ≡ string_bytes out.old ++ keeping_line address subnet.now) }
+{
+    out.push_str("subnet ")?;
+    put_prefix(out, subnet.prefix.address, subnet.prefix.length)?;
+    out.push_str(keeping_phrase(is_to_keep(address, subnet)))?;
+    out.push_str("\n")
+}
+
+fn keeping_phrase(has_it: bool) -> &'static str
+    ensures { result.now ≡ keeping_words has_it }
+{
+    if has_it {
+        " has the address, whose lease the client keeps"
+    } else {
+        " does not have the address"
+    }
+}
+
+// Prints the lines of the subnets for the place and the classes of the message.
+fn put_by_place(out: &mut String, scene: &Scene<'_>) -> Result<(), AllocError>
+    ensures { OnOk result (string_bytes out.new ≡ string_bytes out.old
         ++ sought_lines (is_by_relay scene.now.config.now scene.now.explanation.now.names
-        scene.now.message.now.header)
-        (message_place scene.now.config.now.server scene.now.message.now.header)
+        scene.now.message.now)
+        (message_place scene.now.config.now scene.now.message.now)
         scene.now.explanation.now.names scene.now.config.now.subnets) }
 {
     let names = &scene.explanation.names;
     let sought = Sought {
-        by_relay: comes_by_relay(scene.config, names, scene.message.header()),
-        place: place_of(scene.config.server(), scene.message.header()),
+        by_relay: comes_by_relay(scene.config, names, scene.message),
+        place: place_of(scene.config, scene.message),
         names,
     };
     put_sought(scene.alloc, out, sought, scene.config.subnets())

@@ -225,7 +225,7 @@ text_sound text s e = accepted_sound (settings_spelled text) s (written_sound te
 pub sound : (files : List TokenFile) (s : Settings) (defs : List ClassDef) → AreSettings s
     → may_stand s.subnets ≡ true → AreDefinitions files s.classes defs → AreInOrder defs
     → AllByRecursion IsAccepted defs
-    → IsSound (record { server = s.server; times = s.times; options = s.options; classes = defs; subnets = s.subnets })
+    → IsSound (record { server = s.server; times = s.times; extensions = s.extensions; options = s.options; classes = defs; subnets = s.subnets })
 sound files s defs known stand h order accepted = record {
   server = known.server;
   times = known.times;

@@ -72,6 +72,7 @@ pub record IsConfigOf (settings : Settings) (files : List TokenFile)
     (c : Configuration) : Type 0 where
   pub server : c.server ≡ settings.server
   pub times : c.times ≡ settings.times
+  pub extensions : c.extensions ≡ settings.extensions
   pub options : c.options ≡ settings.options
   pub subnets : c.subnets ≡ settings.subnets
   pub classes : AreDefinitions files settings.classes c.classes

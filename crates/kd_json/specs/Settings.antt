@@ -2,6 +2,7 @@
 use Rattle.std.specs.Prelude.{ℕ, ◌*◌, ◌/◌, Bool, not, ◌&&◌, ◌==◌, nat_le, List, [], ◌∷◌, codes, Option, Some}
 use Rattle.serde_json.specs.Data.{Data}
 use Rattle.serde_json.specs.Find.{get}
+use Rattle.kd_config.specs.Configuration.{no_extensions}
 use Rattle.kd_config.specs.Sound.{longest_lease}
 use Rattle.kd_json.specs.Class.{class_of}
 use Rattle.kd_json.specs.Lists.{list_of}
@@ -51,7 +52,7 @@ settings_with server times d = do
   options ← option_list_in (get (codes "option-data") d)
   classes ← list_of 256 class_of (get (codes "client-classes") d)
   subnets ← list_of 256 subnet_of (get (codes "subnet4") d)
-  Some (record { server = server; times = times; options = options; classes = classes; subnets = subnets })
+  Some (record { server = server; times = times; extensions = no_extensions; options = options; classes = classes; subnets = subnets })
 
 -- the settings that the value of `Dhcp4` describes
 unfoldable pub dhcp4_settings : Data → Option Settings

@@ -56,10 +56,11 @@ pub fn config_of(
     let Settings {
         server,
         times,
+        extensions,
         options,
         classes,
         subnets,
     } = settings;
     let classes = classes_in(alloc, classes.into_vec(), files)?;
-    Ok(Config::of(alloc, server, times, options, classes, subnets)?)
+    Ok(Config::of(alloc, server, times, extensions, options, classes, subnets)?)
 }

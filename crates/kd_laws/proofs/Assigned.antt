@@ -1,6 +1,6 @@
 -- The address that a reply assigns has 32 bits: it is of a pool or a reservation of the subnet in which
 -- the message is served.
-use Rattle.std.proofs.Common.{◌≡◌, ℕ, ◌^◌, ◌<◌, Bool, true, false, not, ◌&&◌, ◌||◌, nat_le, List, [], ◌∷◌, Option, None, Some, ⊎_elim, ◌⊎◌, inl, inr, sym, subst, arith, is_none}
+use Rattle.std.proofs.Common.{◌≡◌, ℕ, ◌^◌, ◌<◌, Bool, true, false, not, ◌&&◌, ◌||◌, nat_le, List, [], ◌∷◌, Option, None, Some, ⊎_elim, ◌⊎◌, inl, inr, sym, subst, arith, is_none, is_some}
 use Rattle.std.specs.Prelude.{IfSome, IsSomeAnd, option_map}
 use Rattle.std.specs.List.{AllByRecursion, list_any}
 use Rattle.std.proofs.lemmas.Bool.{and_parts, eqb-true, false≢true, leb-true, or_cases}
@@ -10,12 +10,13 @@ use Rattle.kd_config.specs.declared.pool.Pool.{Pool}
 use Rattle.kd_config.specs.declared.reservation.Reservation.{Reservation}
 use Rattle.kd_config.specs.declared.subnet.Subnet.{Subnet}
 use Rattle.kd_event.specs.declared.reason.Reason.{Reason}
-use Rattle.kd_lease.specs.Choice.{Asking, Rank, address_reserved, client_reservation, fitting_for, free_for, has_rank, has_such, held_row, is_from, live_row, past_row, pool_gives, pooled, requested_address, reserved_anywhere, same_address, usable}
+use Rattle.kd_lease.specs.Choice.{Asking, Rank, address_reserved, client_reservation, contained, fitting_for, free_for, has_rank, has_such, held_row, is_from, live_row, past_row, pool_gives, pooled, reserved_anywhere, same_address, usable}
 use Rattle.kd_lease.specs.Choice.Rank.{reserved as reserved_rank, own, past, asked, fresh, expired}
 use Rattle.kd_lease.specs.Laws.{EndsAreFounded, IsFounded}
 use Rattle.kd_lease.specs.Plan.{Outcome, ReplyOption}
 use Rattle.kd_lease.specs.Plan.Outcome.{planned, quiet}
-use Rattle.kd_lease.specs.Rules.{Does, IsReplyOf, IsSilent, Makes, client_has, declined_row, ending, released_row, renewable, rule_of, serving_subnet}
+use Rattle.kd_lease.specs.Client.{requested_address}
+use Rattle.kd_lease.specs.Rules.{Does, IsReplyOf, IsSilent, Makes, client_has, declined_row, ending, kept_subnet, lasting_for, released_row, renewable, rule_of, serving_subnet}
 use Rattle.kd_lease.specs.SubnetOf.{class_admits}
 use Rattle.kd_lease.specs.declared.plan.PlanKind.{PlanKind}
 use Rattle.kd_lease.specs.declared.plan.PlanKind.TheVariants as kinds
@@ -37,6 +38,17 @@ pools_32 names (pool ∷ pools) a each inside =
           let last = each.0.last in
           omega (arith, last, below)
 
+-- so has an address that some pool of several contains, whoever may have it
+contained_32 : (pools : List Pool) (a : ℕ) → AllByRecursion ServesPool pools → list_any (λ pool. has pool.range a) pools ≡ true → a < 2 ^ 32
+contained_32 [] a each inside = absurd (false≢true inside)
+contained_32 (pool ∷ pools) a each inside =
+    ⊎_elim one (contained_32 pools a each.1) (or_cases (has pool.range a) (list_any (λ p. has p.range a) pools) inside) where
+      one : has pool.range a ≡ true → a < 2 ^ 32
+      one here =
+          let below = leb-true a pool.range.last (and_parts (nat_le pool.range.first a) (nat_le a pool.range.last) here).1 in
+          let last = each.0.last in
+          omega (arith, last, below)
+
 -- so has an address that is reserved
 same_32 : (r : Option Reservation) (a : ℕ) → IfSome r ServesClient → same_address (option_map (λ x. x.address) r) a ≡ true → a < 2 ^ 32
 same_32 None a is same = absurd (false≢true same)
@@ -50,6 +62,15 @@ fitting_32 q s a is fits =
     (λ open_one. pools_32 q.names s.pools a is.pools (and_parts (pooled q.names s a) (not (reserved_anywhere q.config a)) open_one).0)
     (λ mine. same_32 (client_reservation q.message s) a client mine)
     (or_cases (pooled q.names s a && not (reserved_anywhere q.config a)) (same_address (address_reserved q.message s) a) fits)
+
+-- so has an address that may be renewed
+lasting_32 : (q : Asking) (s : Subnet) (a : ℕ) → Serves s → lasting_for q s a ≡ true → a < 2 ^ 32
+lasting_32 q s a is lasts =
+    let free = contained s a && not (reserved_anywhere q.config a) in
+    ⊎_elim
+    (λ fits. fitting_32 q s a is fits)
+    (λ kept. contained_32 s.pools a is.pools (and_parts (contained s a) (not (reserved_anywhere q.config a)) (and_parts (is_some (kept_subnet q)) free kept).1).0)
+    (or_cases (fitting_for q s a) (is_some (kept_subnet q) && free) lasts)
 
 -- what holds if its second part does
 or_second : (x y : Bool) → y ≡ true → (x || y) ≡ true
@@ -90,7 +111,7 @@ reply_32 kind a (quiet reason) small h = absurd h
 module _ (founded : EndsAreFounded) (q : Asking) (sound : IsSound q.config) (set : Option Row) (outcome : Outcome) where
   -- the subnet in which the message is served
   serving : (s : Subnet) → serving_subnet q ≡ Some s → Serves s
-  serving s is = subst (λ (o : Option Subnet). IfSome o Serves) is (serving_serves q.config q.names q.message.header sound)
+  serving s is = subst (λ (o : Option Subnet). IfSome o Serves) is (serving_serves q sound)
 
   -- an address that is offered
   offer_32 : (type : MessageType) (about : Option ℕ) → IsFounded q type about ends.Offer → Makes q about ends.Offer set outcome → Assigns32 outcome
@@ -101,10 +122,13 @@ module _ (founded : EndsAreFounded) (q : Asking) (sound : IsSound q.config) (set
   -- an address that is leased
   lease_32 : (type : MessageType) (about : Option ℕ) → IsFounded q type about ends.Lease → Makes q about ends.Lease set outcome → Assigns32 outcome
   lease_32 type None rests h = absurd h
-  lease_32 type (Some a) rests h = reply_32 kinds.Ack a outcome (fitting_32 q rests.1.0 a (serving rests.1.0 rests.1.1) (fits rests.1.2)) h.1 where
-    fits : (usable q rests.1.0 a ≡ true) ⊎ (renewable q rests.1.0 a ≡ true) → fitting_for q rests.1.0 a ≡ true
-    fits (inl may) = (and_parts (fitting_for q rests.1.0 a) (free_for q a) may).0
-    fits (inr may) = (and_parts (client_has q a) (fitting_for q rests.1.0 a) may).1
+  lease_32 type (Some a) rests h = reply_32 kinds.Ack a outcome (small rests.1.2) h.1 where
+    there : Serves rests.1.0
+    there = serving rests.1.0 rests.1.1
+
+    small : (usable q rests.1.0 a ≡ true) ⊎ (renewable q rests.1.0 a ≡ true) → a < 2 ^ 32
+    small (inl may) = fitting_32 q rests.1.0 a there (and_parts (fitting_for q rests.1.0 a) (free_for q a) may).0
+    small (inr may) = lasting_32 q rests.1.0 a there (and_parts (client_has q a) (lasting_for q rests.1.0 a) may).1
 
   -- a message that is silent about an address
   silent_32 : (about : Option ℕ) (row : ℕ → Option Row) (reason : Reason) → IsSomeAnd about (λ a. IsSilent (row a) reason set outcome) → Assigns32 outcome

@@ -2,6 +2,7 @@
 -- as one: its addresses have 32 bits, and its options are such as may be configured.
 use Rattle.std.proofs.Common.{◌≡◌, ℕ, zero, suc, ◌+◌, ◌-◌, ◌^◌, ◌<◌, Bool, true, false, ◌&&◌, ◌==◌, nat_eq, nat_le, nat_lt, not, List, [], ◌∷◌, ◌++◌, Option, None, Some, if◌then◌else◌, map, slice_get, arith}
 use Rattle.std.specs.Prelude.{IfSome, option_map}
+use Rattle.std.specs.Option.{option_or}
 use Rattle.std.specs.List.{AllByRecursion, find, flat_map, list_all, list_any, range_with_len}
 use Rattle.std.proofs.lemmas.Bool.{and_parts, ltb-true}
 use Rattle.kd_config.specs.Address.{has_address, prefix_size}
@@ -15,8 +16,11 @@ use Rattle.kd_config.specs.declared.prefix.Prefix.{Prefix}
 use Rattle.kd_config.specs.declared.reservation.Identity.{Identity}
 use Rattle.kd_config.specs.declared.reservation.Reservation.{Reservation}
 use Rattle.kd_config.specs.declared.subnet.Subnet.{Subnet}
+use Rattle.kd_lease.specs.Choice.{Asking}
+use Rattle.kd_lease.specs.Kept.{has_to_keep, renews_lease, subnet_keeping}
+use Rattle.kd_lease.specs.Rules.{kept_subnet, serving_subnet}
+use Rattle.kd_options.specs.Message.{Seen}
 use Rattle.kd_lease.specs.SubnetOf.{first_serving, is_by_relay, message_place, served_by, subnet_serving}
-use Rattle.kd_wire.specs.declared.header.Header.{Header}
 
 -- what holds of all elements of two lists holds of all of both together
 pub each-append : {A : Type 0} (P : A → Type 0) (xs ys : List A) → AllByRecursion P xs → AllByRecursion P ys → AllByRecursion P (xs ++ ys)
@@ -169,10 +173,29 @@ homes : (subnets : List Subnet) → AllByRecursion Serves subnets → (found : O
 homes subnets each None there = tt
 homes subnets each (Some s) there = home_serves subnets each s there
 
--- the subnet in which a message is served
-pub serving_serves : (config : Configuration) (names : List (List ℕ)) (h : Header) → IsSound config → IfSome (subnet_serving config names h) Serves
+-- the subnet in which a message is served by its place
+place_serves : (config : Configuration) (names : List (List ℕ)) (m : Seen) → AllByRecursion Serves config.subnets → IfSome (subnet_serving config names m) Serves
 unfolding subnet_serving
-serving_serves config names h sound =
-    let each = all_serve config.subnets sound.subnets.together sound.subnets.each in
-    homes config.subnets each (first_serving config names h)
-    (find-each Serves (served_by (is_by_relay config names h) (message_place config.server h) names) config.subnets each)
+place_serves config names m each =
+    homes config.subnets each (first_serving config names m)
+    (find-each Serves (served_by (is_by_relay config names m) (message_place config m) names) config.subnets each)
+
+-- the subnet in which its client keeps a lease
+kept_serves : (q : Asking) → AllByRecursion Serves q.config.subnets → IfSome (kept_subnet q) Serves
+kept_serves q each = by (q.config.extensions.keeps_leases && renews_lease q.rows q.message q.now q.client) where
+  a : ℕ
+  a = q.message.header.ciaddr
+
+  by : (b : Bool) → IfSome (if b then subnet_keeping q.config.subnets a else None) Serves
+  by true = homes q.config.subnets each (find (has_to_keep a) q.config.subnets) (find-each Serves (has_to_keep a) q.config.subnets each)
+  by false = tt
+
+either_serves : (kept other : Option Subnet) → IfSome kept Serves → IfSome other Serves → IfSome (option_or kept other) Serves
+either_serves None other here there = there
+either_serves (Some s) other here there = here
+
+-- so the subnet in which a message is served
+pub serving_serves : (q : Asking) → IsSound q.config → IfSome (serving_subnet q) Serves
+serving_serves q sound =
+    let each = all_serve q.config.subnets sound.subnets.together sound.subnets.each in
+    either_serves (kept_subnet q) (subnet_serving q.config q.names q.message) (kept_serves q each) (place_serves q.config q.names q.message each)

@@ -13,7 +13,8 @@ use Rattle.kd_lease.specs.Client.{client_identity}
 use Rattle.kd_lease.specs.Laws.{EndsAreFounded, HeldHasNoRank, HeldIsNotGiven, HeldIsNotUsable, SetsNow}
 use Rattle.kd_lease.specs.Plan.{Outcome, ReplyOption}
 use Rattle.kd_lease.specs.Plan.Outcome.{planned, quiet}
-use Rattle.kd_lease.specs.Rules.{Sets, bound_state, leased_row}
+use Rattle.kd_lease.specs.Kept.{bound_state}
+use Rattle.kd_lease.specs.Rules.{Sets, leased_row}
 use Rattle.kd_lease.specs.declared.plan.PlanKind.TheVariants as kinds
 use Rattle.kd_options.specs.Kind.{type_number}
 use Rattle.kd_options.specs.declared.kind.MessageType.{MessageType}

@@ -8,7 +8,8 @@ use Rattle.kd_lease.specs.Choice.{Asking, has_such, held_row, holding_state, liv
 use Rattle.kd_lease.specs.Laws.{EndsAreFounded, HeldHasNoRank, HeldIsNotUsable, IsAnothers, IsFounded}
 use Rattle.kd_lease.specs.Plan.{Outcome, ReplyOption}
 use Rattle.kd_lease.specs.Plan.Outcome.{planned, quiet}
-use Rattle.kd_lease.specs.Rules.{IsNewest, Makes, Sets, bound_state, declined_row, ending, held_at, leased_row, leased_to, offered_row, offered_state, offered_to, released_row, renewable, rule_of}
+use Rattle.kd_lease.specs.Kept.{bound_state}
+use Rattle.kd_lease.specs.Rules.{IsNewest, Makes, Sets, declined_row, ending, held_at, leased_row, leased_to, offered_row, offered_state, offered_to, released_row, renewable, rule_of}
 use Rattle.kd_lease.specs.declared.plan.PlanKind.TheVariants as kinds
 use Rattle.kd_lease.specs.declared.rule.Ending.{Ending}
 use Rattle.kd_lease.specs.declared.rule.Ending.TheVariants as ends

@@ -141,7 +141,7 @@ from_front a b c d e f = simp append_assoc
 module _ (q : Asking) (sound : IsSound q.config) where
   -- the subnet that serves the message obeys the rules
   serving_sound : IfSome (serving_subnet q) Serves
-  serving_sound = serving_serves q.config q.names q.message.header sound
+  serving_sound = serving_serves q sound
 
   -- the configured options in a subnet, if there is one
   in_subnet_ordered : (s : Option Subnet) (address : ℕ) → IfSome s Serves → AreOrdered 6 261 (configured_in q s address)

@@ -430,6 +430,12 @@ reserved_not_it q sought kept a is not_it b = by (reserved_sought q sought kept 
       let same : a ≡ b = eqb-true a b (sym (ap (λ (o : Option ℕ). same_address o b) is) ∙ (and_parts (sought_at q sought b) _ h).1) in
       absurd (false≢true (sym not_it ∙ (ap (sought_at q sought) same ∙ (and_parts (sought_at q sought b) _ h).0)))
 
+pub reserved_none : (q : Asking) (sought : Sought) (kept : Option ℕ) → kept ≡ None → IsNewest q.rows (reserved_sought q sought kept) None
+reserved_none q sought kept none a = ap (λ (o : Option ℕ). sought_at q sought a && same_address o a) none ∙ by (sought_at q sought a) where
+  by : (t : Bool) → (t && false) ≡ false
+  by true = refl
+  by false = refl
+
 -- what was found, as a row or as none
 pub reached_row : (q : Asking) (sought : Sought) (state : State) (first last : ℕ) (found : Option (Bor Row)) (row : Bor Row) → found ≡ Some row → IsReached q sought state first last (option_copied found) → IsReached q sought state first last (Some row.now)
 reached_row q sought state first last found row is = subst (λ (o : Option (Bor Row)). IsReached q sought state first last (option_copied o)) is

@@ -4,8 +4,10 @@ use Rattle.std.specs.List.{find}
 use Rattle.std.proofs.lemmas.Bool.{and_from, and_parts, false≢true, not-false}
 use Rattle.kd_config.specs.declared.subnet.Subnet.{Subnet}
 use Rattle.kd_lease.specs.Choice.{Asking, Choice, fitting_for, free_for, usable}
+use Rattle.kd_lease.specs.Client.{named_server}
 use Rattle.kd_lease.specs.Laws.{EndsAreFounded, IsFounded}
-use Rattle.kd_lease.specs.Rules.{IsAbout, IsChosenIn, checks_in, client_has, ending, ends_by, fails, held_at, holds_at, named_server, passes, passes_in, renewable, rule_by, rule_of, serving_subnet}
+use Rattle.kd_lease.specs.Kept.{passes}
+use Rattle.kd_lease.specs.Rules.{IsAbout, IsChosenIn, checks_in, client_has, ending, ends_by, fails, held_at, holds_at, lasting_for, passes_in, renewable, rule_by, rule_of, serving_subnet}
 use Rattle.kd_lease.specs.declared.rule.Check.{Check}
 use Rattle.kd_lease.specs.declared.rule.Ending.{Ending}
 use Rattle.kd_lease.specs.declared.rule.Ending.TheVariants as ends
@@ -74,10 +76,10 @@ selected q None about fits free = absurd (false≢true fits)
 selected q (Some s) None fits free = absurd (false≢true fits)
 selected q (Some s) (Some a) fits free = (s, refl, inl (and_from (fitting_for q s a) (free_for q a) fits free))
 
-renewed : (q : Asking) (o : Option Subnet) (about : Option ℕ) → passes (client_has q) about ≡ true → passes_in (fitting_for q) o about ≡ true → MayLease q o about
+renewed : (q : Asking) (o : Option Subnet) (about : Option ℕ) → passes (client_has q) about ≡ true → passes_in (lasting_for q) o about ≡ true → MayLease q o about
 renewed q None about own fits = absurd (false≢true fits)
 renewed q (Some s) None own fits = absurd (false≢true fits)
-renewed q (Some s) (Some a) own fits = (s, refl, inr (and_from (client_has q a) (fitting_for q s a) own fits))
+renewed q (Some s) (Some a) own fits = (s, refl, inr (and_from (client_has q a) (lasting_for q s a) own fits))
 
 -- a DECLINE or a RELEASE that does: the client holds the address
 held : (q : Asking) (about : Option ℕ) → passes (held_at q) about ≡ true → IsSomeAnd about (λ a. held_at q a ≡ true)

@@ -4,10 +4,11 @@ use Rattle.std.proofs.lemmas.Bool.{false≢true}
 use Rattle.kd_config.specs.declared.subnet.Subnet.{Subnet}
 use Rattle.kd_rows.specs.Table.{belongs_to, row_at}
 use Rattle.kd_rows.specs.declared.row.Row.{Row}
-use Rattle.kd_lease.specs.Choice.{Asking, Rank, fitting_for, has_rank, has_such, pooled, same_address, free_for, held_row, holding_state, live_row, past_row, usable, freed_by, requested_address, address_reserved}
+use Rattle.kd_lease.specs.Choice.{Asking, Rank, fitting_for, has_rank, has_such, pooled, same_address, free_for, held_row, holding_state, live_row, past_row, usable, freed_by, address_reserved}
 use Rattle.kd_lease.specs.Choice.Rank.{reserved, own, past, asked, fresh, expired}
+use Rattle.kd_lease.specs.Client.{requested_address}
 use Rattle.kd_lease.specs.Laws.{IsAnothers}
-use Rattle.kd_lease.specs.Rules.{client_has, renewable}
+use Rattle.kd_lease.specs.Rules.{client_has, lasting_for, renewable}
 
 and_no : (t u : Bool) → u ≡ false → (t && u) ≡ false
 and_no true u h = h
@@ -58,4 +59,4 @@ pub not_usable : (q : Asking) (s : Subnet) (a : ℕ) (row : Row) → IsAnothers 
 not_usable q s a row h = and_no (fitting_for q s a) (free_for q a) (not_free q a row h)
 
 pub not_renewed : (q : Asking) (s : Subnet) (a : ℕ) (row : Row) → IsAnothers q a row → renewable q s a ≡ false
-not_renewed q s a row h = no_and (client_has q a) (fitting_for q s a) (ap (has_such (belongs_to q.client)) h.there ∙ h.other)
+not_renewed q s a row h = no_and (client_has q a) (lasting_for q s a) (ap (has_such (belongs_to q.client)) h.there ∙ h.other)

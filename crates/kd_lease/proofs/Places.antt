@@ -1,13 +1,18 @@
 -- Where no subnet names a relay, prefixes count alone.
-use Rattle.std.proofs.Common.{◌≡◌, ℕ, Bool, true, false, not, ◌&&◌, ◌==◌, List, [], ◌∷◌, ◌-◌, None, Some, option_map, if◌then◌else◌, slice_get, refl, ap}
+use Rattle.std.proofs.Common.{◌≡◌, ℕ, Bool, true, false, not, ◌&&◌, ◌||◌, ◌==◌, List, [], ◌∷◌, ◌-◌, Option, None, Some, is_none, is_some, option_map, if◌then◌else◌, slice_get, refl, ap, ◌∙◌}
+use Rattle.std.specs.Option.{option_or}
 use Rattle.std.specs.List.{AllByRecursion, find, list_any}
 use Rattle.std.proofs.lemmas.Bool.{eq-eqb}
 use Rattle.kd_config.specs.Address.{has_address}
 use Rattle.kd_config.specs.Configuration.{Configuration}
 use Rattle.kd_config.specs.Networks.{covers, home_of, is_part, networks_in, part_holding, value_or}
 use Rattle.kd_config.specs.declared.subnet.Subnet.{Subnet}
-use Rattle.kd_wire.specs.declared.header.Header.{Header}
-use Rattle.kd_lease.specs.SubnetOf.{class_admits, first_serving, has_relay, is_by_relay, message_place, served_by, subnet_serving}
+use Rattle.kd_options.specs.Message.{Seen}
+use Rattle.kd_lease.specs.Choice.{Asking, contained, fitting_for, reserved_anywhere}
+use Rattle.kd_lease.specs.Client.{selected_link}
+use Rattle.kd_lease.specs.Kept.{renews_lease, subnet_keeping}
+use Rattle.kd_lease.specs.Rules.{kept_subnet, lasting_for, serving_subnet}
+use Rattle.kd_lease.specs.SubnetOf.{address_or, class_admits, first_serving, has_relay, header_place, is_by_relay, link_of, message_place, served_by, subnet_serving}
 
 -- no subnet has a relay
 none_has : (subnets : List Subnet) (a : ℕ) (names : List (List ℕ)) → AllByRecursion (λ s. s.relays ≡ []) subnets
@@ -21,14 +26,15 @@ off : (t u : Bool) → u ≡ false → (t && u) ≡ false
 off true u e = e
 off false u e = refl
 
-pub served_by_prefix : (config : Configuration) (names : List (List ℕ)) (h : Header) → AllByRecursion (λ s. s.relays ≡ []) config.subnets
-    → subnet_serving config names h
-    ≡ option_map (home_of config.subnets) (find (λ s. has_address s.prefix (message_place config.server h) && class_admits s.class names) config.subnets)
+pub served_by_prefix : (config : Configuration) (names : List (List ℕ)) (m : Seen) → AllByRecursion (λ s. s.relays ≡ []) config.subnets
+    → subnet_serving config names m
+    ≡ option_map (home_of config.subnets) (find (λ s. has_address s.prefix (message_place config m) && class_admits s.class names) config.subnets)
 unfolding subnet_serving
-served_by_prefix config names h none =
-    let by_prefix : is_by_relay config names h ≡ false =
-    off (not (h.giaddr == 0)) (list_any (served_by true h.giaddr names) config.subnets) (none_has config.subnets h.giaddr names none) in
-    ap (λ b. option_map (home_of config.subnets) (find (served_by b (message_place config.server h) names) config.subnets)) by_prefix
+served_by_prefix config names m none =
+    let by_prefix : is_by_relay config names m ≡ false =
+    off (is_none (link_of config m)) (not (m.header.giaddr == 0) && list_any (served_by true m.header.giaddr names) config.subnets)
+    (off (not (m.header.giaddr == 0)) (list_any (served_by true m.header.giaddr names) config.subnets) (none_has config.subnets m.header.giaddr names none)) in
+    ap (λ b. option_map (home_of config.subnets) (find (served_by b (message_place config m) names) config.subnets)) by_prefix
 
 -- ---- where no subnet is in a shared network
 
@@ -46,11 +52,11 @@ all_at_home subnets test (x ∷ xs) none = by (test x) (all_at_home subnets test
   by true rest = ap Some (at_home subnets x none.0)
   by false rest = rest
 
-pub served_alone : (config : Configuration) (names : List (List ℕ)) (h : Header) → AllByRecursion (λ s. s.network ≡ 0) config.subnets
-    → subnet_serving config names h ≡ first_serving config names h
+pub served_alone : (config : Configuration) (names : List (List ℕ)) (m : Seen) → AllByRecursion (λ s. s.network ≡ 0) config.subnets
+    → subnet_serving config names m ≡ first_serving config names m
 unfolding subnet_serving
-served_alone config names h none =
-    all_at_home config.subnets (served_by (is_by_relay config names h) (message_place config.server h) names) config.subnets none
+served_alone config names m none =
+    all_at_home config.subnets (served_by (is_by_relay config names m) (message_place config m) names) config.subnets none
 
 pub standing_alone : (subnets : List Subnet) (s : Subnet) (a : ℕ) → s.network ≡ 0
     → (covers subnets s a ≡ has_address s.prefix a) × (part_holding subnets s a ≡ s)
@@ -59,3 +65,23 @@ standing_alone subnets s a none =
       ap (λ (b : Bool). if b then has_address s.prefix a else list_any (is_part s.network a) subnets) here,
       ap (λ (b : Bool). if b then s else value_or (find (is_part s.network a) subnets) s) here,
     )
+
+-- ---- where relays select no links, and clients keep no leases
+
+pub placed_by_header : (config : Configuration) (m : Seen) → (config.extensions.selects_links && not (m.header.giaddr == 0)) ≡ false
+    → (link_of config m ≡ None) × (message_place config m ≡ header_place config.server m.header)
+placed_by_header config m none =
+    let here : link_of config m ≡ None = ap (λ (b : Bool). if b then selected_link m else None) none in
+    (here, ap (λ (o : Option ℕ). address_or o (header_place config.server m.header)) here)
+
+pub renewed_by_class : (q : Asking) → q.config.extensions.keeps_leases ≡ false
+    → (serving_subnet q ≡ subnet_serving q.config q.names q.message) × ((s : Subnet) (a : ℕ) → lasting_for q s a ≡ fitting_for q s a)
+renewed_by_class q none =
+    let kept : kept_subnet q ≡ None =
+    ap (λ (b : Bool). if b && renews_lease q.rows q.message q.now q.client then subnet_keeping q.config.subnets q.message.header.ciaddr else None) none in (
+      ap (λ (o : Option Subnet). option_or o (subnet_serving q.config q.names q.message)) kept,
+      λ s a. ap (λ (o : Option Subnet). fitting_for q s a || (is_some o && (contained s a && not (reserved_anywhere q.config a)))) kept ∙ or_false (fitting_for q s a),
+    ) where
+  or_false : (b : Bool) → (b || false) ≡ b
+  or_false true = refl
+  or_false false = refl

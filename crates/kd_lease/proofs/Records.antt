@@ -9,11 +9,12 @@ use Rattle.std.proofs.lemmas.Nat.{pow_pos}
 use Rattle.kd_rows.specs.Table.{IsNextOf, belongs_to, row_at}
 use Rattle.kd_rows.specs.declared.row.Row.{Row}
 use Rattle.kd_config.specs.Address.{has_address, prefix_size}
-use Rattle.kd_config.specs.Networks.{is_part}
+use Rattle.kd_config.specs.Networks.{covers, is_part}
 use Rattle.kd_config.specs.declared.prefix.Prefix.{Prefix}
 use Rattle.kd_config.specs.declared.subnet.Subnet.{Subnet}
 use Rattle.kd_lease.specs.Choice.{Asking, has_such}
-use Rattle.kd_lease.specs.Rules.{client_has, known_in}
+use Rattle.kd_lease.specs.Kept.{passes}
+use Rattle.kd_lease.specs.Rules.{client_has, is_record, known_in}
 use Rattle.kd_lease.specs.Seeking.{has_row_in, has_row_of}
 
 both : (t u : Bool) → t ≡ true → u ≡ true → (t && u) ≡ true
@@ -123,3 +124,8 @@ pub known_within : (q : Asking) (s : Subnet) (found : Bool) → (s.network == 0)
 known_within q s found other is =
     is ∙ by_rows q s.network q.config.subnets q.rows
     ∙ ap (λ (b : Bool). list_any (λ row. client_has q row.address && (if b then has_address s.prefix row.address else list_any (is_part s.network row.address) q.config.subnets)) q.rows) (sym other)
+
+-- a client that has a row at an address of a subnet is known in it
+pub known_there : (q : Asking) (s : Subnet) (about : Option ℕ) → passes (is_record q s) about ≡ true → true ≡ known_in q (Some s)
+known_there q s None there = absurd (false≢true there)
+known_there q s (Some a) there = sym (one_passes (is_record q s) q.rows a (belongs_to q.client) (and_parts (client_has q a) (covers q.config.subnets s a) there).0 there)

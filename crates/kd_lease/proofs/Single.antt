@@ -9,9 +9,9 @@ use Rattle.kd_config.specs.declared.subnet.Subnet.{Subnet}
 use Rattle.kd_event.specs.declared.reason.Reason.{Reason}
 use Rattle.kd_event.specs.declared.reason.Reason.TheVariants as reasons
 use Rattle.kd_lease.specs.Change.{AnswersTo, Decides, ForClient, HasReplyOptions, Unless, WhereFits, after, asked_for, fits_in}
-use Rattle.kd_lease.specs.Choice.{Asking, Choice, IsFirstOf, Rank, address_reserved, changed_in, free_for, pool_place, place, requested_address, same_address, set_later, usable}
+use Rattle.kd_lease.specs.Choice.{Asking, Choice, IsFirstOf, Rank, address_reserved, changed_in, free_for, pool_place, place, same_address, set_later, usable}
 use Rattle.kd_lease.specs.Choice.Rank.{asked, expired, fresh, own, past, reserved}
-use Rattle.kd_lease.specs.Client.{client_identity, reply_room, server_message}
+use Rattle.kd_lease.specs.Client.{client_identity, reply_room, requested_address, server_message}
 use Rattle.kd_lease.specs.Laws.{EndsDecide, OneAnswer, OneChange}
 use Rattle.kd_lease.specs.Plan.{Outcome}
 use Rattle.kd_lease.specs.Plan.Outcome.{planned, quiet}

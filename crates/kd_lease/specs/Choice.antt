@@ -3,7 +3,6 @@
 -- Reference Manual, section Host Reservations in DHCPv4; the order of pools and the use of option
 -- 50 are those of RFC 2131.
 use Rattle.std.specs.Prelude.{◌≡◌, ℕ, ◌+◌, ◌≤◌, Bool, true, false, not, ◌&&◌, ◌||◌, ◌==◌, nat_lt, is_none, List, [], ◌∷◌, Option, Some, None, option_map, if◌then◌else◌}
-use Rattle.std.specs.Int.{from_be_bytes, w32}
 use Rattle.std.specs.List.{find, list_any}
 use Rattle.std.specs.Str.{bytes_eq}
 use Rattle.kd_config.specs.Apart.{has}
@@ -13,6 +12,7 @@ use Rattle.kd_config.specs.declared.reservation.Identity.{Identity}
 use Rattle.kd_config.specs.declared.reservation.Identity.TheVariants.{Hardware, ClientId}
 use Rattle.kd_config.specs.declared.reservation.Reservation.{Reservation}
 use Rattle.kd_config.specs.declared.subnet.Subnet.{Subnet}
+use Rattle.kd_lease.specs.Client.{requested_address}
 use Rattle.kd_lease.specs.SubnetOf.{class_admits}
 use Rattle.kd_options.specs.Joined.{value_of}
 use Rattle.kd_options.specs.Message.{Seen, mac_of}
@@ -70,6 +70,10 @@ pool_gives names pool a = class_admits pool.class names && has pool.range a
 abbrev pub pooled : List (List ℕ) → Subnet → ℕ → Bool
 pooled names s a = list_any (λ pool. pool_gives names pool a) s.pools
 
+-- a pool of the subnet contains this address, whoever may have it
+abbrev pub contained : Subnet → ℕ → Bool
+contained s a = list_any (λ pool. has pool.range a) s.pools
+
 -- an address fits: a pool of the subnet has it for the client and it is not reserved, or it is
 -- reserved for the client
 abbrev pub fitting_for : Asking → Subnet → ℕ → Bool
@@ -117,15 +121,6 @@ free_for q a = is_none (row_at q.rows a) || has_such (freed_by q) (row_at q.rows
 -- the client may be assigned an address: it fits and is free
 abbrev pub usable : Asking → Subnet → ℕ → Bool
 usable q s a = fitting_for q s a && free_for q a
-
--- the address in a value of four bytes
-abbrev pub address_of_value : Option (List ℕ) → Option ℕ
-address_of_value (Some (a ∷ b ∷ c ∷ d ∷ [])) = Some (from_be_bytes w32 (a ∷ b ∷ c ∷ d ∷ []))
-address_of_value other = None
-
--- the address that the client asks for in option 50
-abbrev pub requested_address : Seen → Option ℕ
-requested_address m = address_of_value (value_of 50 m.options)
 
 -- the ranks of addresses, the strongest first: reserved for the client, the client's own, formerly
 -- the client's, asked for by the client, without a row, with a row that has ended

@@ -1,10 +1,13 @@
 -- What a message says about its client (RFC 2131 sections 2 and 4.2, RFC 2132 sections 9.6, 9.8,
--- 9.10 and 9.14): its type, who the client is, which options it asks for, and how long a reply may
--- be.
-use Rattle.std.specs.Prelude.{ℕ, ◌+◌, ◌-◌, ◌*◌, max, min, Bool, true, ◌||◌, ◌==◌, List, [], ◌∷◌, Option, Some, None}
+-- 9.10 and 9.14, RFC 3527): its type, who the client is, which server it names, which options it asks
+-- for, how long a reply may be, and the link on which its relay says that it is.
+use Rattle.std.specs.Prelude.{ℕ, ◌+◌, ◌-◌, ◌*◌, max, min, Bool, true, ◌||◌, ◌==◌, nat_eq, List, [], ◌∷◌, Option, Some, None}
+use Rattle.std.specs.Int.{from_be_bytes, w32}
 use Rattle.std.specs.List.{list_any}
+use Rattle.std.specs.Map.{lookup}
 use Rattle.kd_options.specs.Joined.{value_of}
 use Rattle.kd_options.specs.Message.{Seen, mac_of}
+use Rattle.kd_options.specs.RelayWalk.{relay_list}
 
 -- the first byte of a value, 0 if there is none
 abbrev pub first_byte : Option (List ℕ) → ℕ
@@ -36,6 +39,23 @@ identity_by (Some (b ∷ bytes)) hardware = Some (1 ∷ b ∷ bytes)
 abbrev pub client_identity : Seen → Option (List ℕ)
 client_identity m =
     identity_by (value_of 61 m.options) (identity_by_hardware m.header.htype (mac_of m.header))
+
+-- the address in a value of four bytes
+abbrev pub address_of_value : Option (List ℕ) → Option ℕ
+address_of_value (Some (a ∷ b ∷ c ∷ d ∷ [])) = Some (from_be_bytes w32 (a ∷ b ∷ c ∷ d ∷ []))
+address_of_value other = None
+
+-- the address that the client asks for in option 50
+abbrev pub requested_address : Seen → Option ℕ
+requested_address m = address_of_value (value_of 50 m.options)
+
+-- the server that a message names, option 54
+abbrev pub named_server : Seen → Option ℕ
+named_server m = address_of_value (value_of 54 m.options)
+
+-- the link that a relay selects for its client: sub-option 5 of option 82, if it has four bytes
+abbrev pub selected_link : Seen → Option ℕ
+selected_link m = address_of_value (lookup (nat_eq 5) (relay_list m.options))
 
 -- a code is asked for: option 55 lists it, or is absent
 abbrev pub is_asked_in : ℕ → Option (List ℕ) → Bool

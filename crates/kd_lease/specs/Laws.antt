@@ -1,5 +1,5 @@
 -- What is true of the rules for every configuration, table, message and time.
-use Rattle.std.specs.Prelude.{◌≡◌, ℕ, true, false, ◌&&◌, ◌⊎◌, List, [], Option, Some, None, option_map, IsSomeAnd}
+use Rattle.std.specs.Prelude.{◌≡◌, ℕ, true, false, not, ◌&&◌, ◌==◌, ◌⊎◌, List, [], Option, Some, None, option_map, IsSomeAnd}
 use Rattle.std.specs.List.{AllByRecursion, find}
 use Rattle.kd_config.specs.Address.{has_address}
 use Rattle.kd_config.specs.Networks.{covers, home_of, part_holding}
@@ -11,14 +11,13 @@ use Rattle.kd_options.specs.declared.kind.MessageType.{MessageType}
 use Rattle.kd_options.specs.declared.kind.MessageType.TheVariants as types
 use Rattle.kd_rows.specs.Table.{belongs_to, row_at}
 use Rattle.kd_rows.specs.declared.row.Row.{Row}
-use Rattle.kd_wire.specs.declared.header.Header.{Header}
 use Rattle.kd_lease.specs.Change.{Changes, Decides}
-use Rattle.kd_lease.specs.Choice.{Asking, Choice, Rank, has_rank, live_row, usable}
+use Rattle.kd_lease.specs.Choice.{Asking, Choice, Rank, fitting_for, has_rank, live_row, usable}
 use Rattle.kd_lease.specs.Client.{kind_of}
 use Rattle.kd_lease.specs.Plan.{Outcome, ReplyOption}
 use Rattle.kd_lease.specs.Plan.Outcome.{planned}
-use Rattle.kd_lease.specs.Rules.{Does, IsAbout, Makes, Sets, ending, held_at, renewable, rule_of, serving_subnet}
-use Rattle.kd_lease.specs.SubnetOf.{class_admits, first_serving, message_place, subnet_serving}
+use Rattle.kd_lease.specs.Rules.{Does, IsAbout, Makes, Sets, ending, held_at, lasting_for, renewable, rule_of, serving_subnet}
+use Rattle.kd_lease.specs.SubnetOf.{class_admits, first_serving, header_place, link_of, message_place, subnet_serving}
 use Rattle.kd_lease.specs.declared.plan.PlanKind.TheVariants as kinds
 use Rattle.kd_lease.specs.declared.rule.Ending.{Ending}
 use Rattle.kd_lease.specs.declared.rule.Ending.TheVariants as ends
@@ -110,19 +109,35 @@ OneChange =
 -- and whose class is held, or the shared network that it is in
 abbrev pub ServesByPrefix : Type 0
 ServesByPrefix =
-    (config : Configuration) (names : List (List ℕ)) (h : Header)
+    (config : Configuration) (names : List (List ℕ)) (m : Seen)
     → AllByRecursion (λ s. s.relays ≡ []) config.subnets
-    → subnet_serving config names h
+    → subnet_serving config names m
     ≡ option_map (home_of config.subnets)
-    (find (λ s. has_address s.prefix (message_place config.server h) && class_admits s.class names)
+    (find (λ s. has_address s.prefix (message_place config m) && class_admits s.class names)
     config.subnets)
 
 -- where no subnet is in a shared network, the first subnet that serves a message serves it alone
 abbrev pub ServesAlone : Type 0
 ServesAlone =
-    (config : Configuration) (names : List (List ℕ)) (h : Header)
+    (config : Configuration) (names : List (List ℕ)) (m : Seen)
     → AllByRecursion (λ s. s.network ≡ 0) config.subnets
-    → subnet_serving config names h ≡ first_serving config names h
+    → subnet_serving config names m ≡ first_serving config names m
+
+-- where relays select no links, or the message came through no relay, its header alone says where it
+-- comes from
+abbrev pub PlaceByHeader : Type 0
+PlaceByHeader =
+    (config : Configuration) (m : Seen)
+    → (config.extensions.selects_links && not (m.header.giaddr == 0)) ≡ false
+    → (link_of config m ≡ None) × (message_place config m ≡ header_place config.server m.header)
+
+-- where clients keep no leases, a message is served by its place and classes, and an address that may
+-- be renewed fits
+abbrev pub RenewedByClass : Type 0
+RenewedByClass =
+    (q : Asking) → q.config.extensions.keeps_leases ≡ false
+    → (serving_subnet q ≡ subnet_serving q.config q.names q.message)
+    × ((s : Subnet) (a : ℕ) → lasting_for q s a ≡ fitting_for q s a)
 
 -- a subnet in no network has the addresses of its prefix, and its own options and mask are given
 abbrev pub StandsAlone : Type 0

@@ -6,6 +6,7 @@ pub mod Cuts
 pub mod Decided
 pub mod Destination
 pub mod Given
+pub mod Kept
 pub mod Laws
 pub mod Leases
 pub mod Plan

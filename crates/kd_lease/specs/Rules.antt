@@ -2,13 +2,13 @@
 -- and what the message gets: the kind of its reply and the address that the reply assigns, or the
 -- reason why there is none. The options of a reply are not defined here. The rows, their states and
 -- the times for which an offer and a declined address are held are our own.
-use Rattle.std.specs.Prelude.{◌≡◌, ℕ, ◌+◌, Bool, true, false, not, ◌&&◌, ◌==◌, List, [], ◌∷◌, Option, Some, None, IsSomeAnd, is_some, option_map, if◌then◌else◌}
+use Rattle.std.specs.Prelude.{◌≡◌, ℕ, ◌+◌, Bool, true, false, not, ◌&&◌, ◌||◌, ◌==◌, List, [], ◌∷◌, Option, Some, None, IsSomeAnd, is_some, option_map, if◌then◌else◌}
 use Rattle.std.specs.List.{find, list_any}
+use Rattle.std.specs.Option.{option_or}
 use Rattle.kd_config.specs.Networks.{covers}
 use Rattle.kd_config.specs.declared.subnet.Subnet.{Subnet}
 use Rattle.kd_event.specs.declared.reason.Reason.{Reason}
 use Rattle.kd_event.specs.declared.reason.Reason.TheVariants as reasons
-use Rattle.kd_options.specs.Joined.{value_of}
 use Rattle.kd_options.specs.Kind.{type_number}
 use Rattle.kd_options.specs.Message.{Seen}
 use Rattle.kd_options.specs.declared.kind.MessageType.{MessageType}
@@ -18,8 +18,9 @@ use Rattle.kd_rows.specs.Table.{belongs_to, row_at}
 use Rattle.kd_rows.specs.declared.row.Row.{Row}
 use Rattle.kd_rows.specs.declared.row.State.{State}
 use Rattle.kd_rows.specs.declared.row.State.TheVariants as states
-use Rattle.kd_lease.specs.Choice.{Asking, Choice, NoChoice, address_of_value, fitting_for, free_for, has_such, held_row, live_row, set_later, requested_address}
-use Rattle.kd_lease.specs.Client.{kind_of}
+use Rattle.kd_lease.specs.Choice.{Asking, Choice, NoChoice, contained, fitting_for, free_for, has_such, held_row, live_row, reserved_anywhere, set_later}
+use Rattle.kd_lease.specs.Client.{kind_of, named_server, requested_address}
+use Rattle.kd_lease.specs.Kept.{ciaddr_in, is_leased_in, kept_in, passes}
 use Rattle.kd_lease.specs.Plan.{Outcome}
 use Rattle.kd_lease.specs.Plan.Outcome.{planned, quiet}
 use Rattle.kd_lease.specs.SubnetOf.{subnet_serving}
@@ -72,21 +73,14 @@ declined_row q a =
       ends = q.now + q.config.times.decline_hold;
     }
 
--- the state is that of a lease
-abbrev pub bound_state : State → Bool
-bound_state states.Bound = true
-bound_state other = false
-
 -- the state is that of an offer
 abbrev pub offered_state : State → Bool
 offered_state states.Offered = true
 offered_state other = false
 
--- the client leases an address: its row is the client's, has not ended, and is bound
+-- the client leases an address
 abbrev pub leased_to : Asking → ℕ → Bool
-leased_to q a =
-    has_such (λ row. live_row q.now row && (belongs_to q.client row && bound_state row.state))
-    (row_at q.rows a)
+leased_to q a = is_leased_in q.rows q.now q.client a
 
 -- an address is offered to the client: its row is the client's, has not ended, and is offered
 abbrev pub offered_to : Asking → ℕ → Bool
@@ -106,27 +100,15 @@ client_has q a = has_such (belongs_to q.client) (row_at q.rows a)
 abbrev pub is_record : Asking → Subnet → ℕ → Bool
 is_record q s a = client_has q a && covers q.config.subnets s a
 
--- the client may renew its lease of an address: the row is the client's, and the address fits
-abbrev pub renewable : Asking → Subnet → ℕ → Bool
-renewable q s a = client_has q a && fitting_for q s a
-
 -- the newest of the addresses that pass a test, or none if there is none
 abbrev pub IsNewest : List Row → (ℕ → Bool) → Option ℕ → Type 0
 IsNewest rows such None = (a : ℕ) → such a ≡ false
 IsNewest rows such (Some a) =
     (such a ≡ true) × ((b : ℕ) → such b ≡ true → set_later rows b a ≡ false)
 
--- the subnet that serves the message
-abbrev pub serving_subnet : Asking → Option Subnet
-serving_subnet q = subnet_serving q.config q.names q.message.header
-
 -- the row that an offer sets; none if the client leases the address
 abbrev pub row_of_offer : Asking → ℕ → Option Row
 row_of_offer q a = if leased_to q a then None else Some (offered_row q a)
-
--- the server that a message names, option 54
-abbrev pub named_server : Seen → Option ℕ
-named_server m = address_of_value (value_of 54 m.options)
 
 -- a message names another server
 abbrev pub other_server : ℕ → Option ℕ → Bool
@@ -138,9 +120,29 @@ other_server server (Some named) = not (named == server)
 abbrev pub renewed_address : Seen → Option ℕ
 renewed_address m = if m.header.ciaddr == 0 then requested_address m else Some m.header.ciaddr
 
--- the address that the client says it has, unless that is zero
-abbrev pub ciaddr_in : Seen → Option ℕ
-ciaddr_in m = if m.header.ciaddr == 0 then None else Some m.header.ciaddr
+-- ---- the subnet that serves a message
+
+-- the subnet in which the client keeps the lease that it renews, if it does
+abbrev pub kept_subnet : Asking → Option Subnet
+kept_subnet q = kept_in q.config q.rows q.message q.now q.client
+
+-- the subnet that serves the message: the one in which the client keeps its lease, or else that of
+-- its place and classes
+abbrev pub serving_subnet : Asking → Option Subnet
+serving_subnet q =
+    option_or (kept_subnet q) (subnet_serving q.config q.names q.message)
+
+-- an address may be renewed in a subnet: it fits, or the client keeps its lease, a pool contains the
+-- address, for whichever class, and it is not reserved
+abbrev pub lasting_for : Asking → Subnet → ℕ → Bool
+lasting_for q s a =
+    fitting_for q s a
+    || (is_some (kept_subnet q) && (contained s a && not (reserved_anywhere q.config a)))
+
+-- the client may renew its lease of an address: the row is the client's, and the address may be
+-- renewed
+abbrev pub renewable : Asking → Subnet → ℕ → Bool
+renewable q s a = client_has q a && lasting_for q s a
 
 -- ---- the address that a message is about
 
@@ -166,11 +168,6 @@ IsAbout q rules.Server about = about ≡ None
 
 -- ---- the checks
 
--- there is an address, and it passes a test
-abbrev pub passes : (ℕ → Bool) → Option ℕ → Bool
-passes test None = false
-passes test (Some a) = test a
-
 -- a subnet serves the message, there is an address, and it passes a test there
 abbrev pub passes_in : (Subnet → ℕ → Bool) → Option Subnet → Option ℕ → Bool
 passes_in test None about = false
@@ -192,6 +189,7 @@ holds_at q about checks.Prefix =
 holds_at q about checks.Client = known_in q (serving_subnet q)
 holds_at q about checks.Owner = passes (client_has q) about
 holds_at q about checks.Fits = passes_in (fitting_for q) (serving_subnet q) about
+holds_at q about checks.Lasts = passes_in (lasting_for q) (serving_subnet q) about
 holds_at q about checks.Free = passes (free_for q) about
 holds_at q about checks.Held = passes (held_at q) about
 
@@ -225,7 +223,7 @@ checks_in rules.Renew =
     ∷ (checks.Prefix, ends.Nak)
     ∷ (checks.Client, ends.Quiet reasons.NoRecord)
     ∷ (checks.Owner, ends.Nak)
-    ∷ (checks.Fits, ends.Nak) ∷ []
+    ∷ (checks.Lasts, ends.Nak) ∷ []
 checks_in rules.Decline =
     (checks.Server, ends.Quiet reasons.OtherServer)
     ∷ (checks.Address, ends.Quiet reasons.NoRequested)

@@ -1,16 +1,18 @@
-ghost use Rattle.std.specs.Prelude.{◌≡◌};
+ghost use Rattle.std.specs.Prelude.{◌≡◌, Some};
 ghost use Rattle.std.specs.List.{find};
 ghost use Rattle.std.specs.Option.{option_copied};
 ghost use Rattle.kd_config.specs.Networks.{covers};
 ghost use Rattle.kd_lease.specs.Choice.{fitting_for, free_for};
-ghost use Rattle.kd_lease.specs.Rules.{asking, client_has, ending, fails, held_at, holds_at, known_in, passes, passes_in, serving_subnet};
+ghost use Rattle.kd_lease.specs.Kept.{passes};
+ghost use Rattle.kd_lease.specs.Rules.{asking, client_has, ending, fails, held_at, holds_at, is_record, known_in, lasting_for, passes_in, serving_subnet};
 
-use crate::fit::{fits, is_free};
+use crate::fit::{fits, is_free, lasts};
 use crate::matter::Matter;
 use crate::question::Question;
 use crate::rule::{Check, Ending, Line};
 use crate::search::{is_client_at, is_held_at, knows_client};
 use crate::server::{names_other, server_of};
+use kd_config::Subnet;
 
 /// Returns how a message ends: as the first check of its rule that it does not pass says, or if it
 /// passes them all, as the rule does (RFC 2131 section 4.3).
@@ -54,9 +56,10 @@ pub fn holds(matter: &Matter<'_>, check: Check) -> bool
         Check::Choice => address.is_some(),
         Check::Subnet => question.subnet.is_some(),
         Check::Prefix => is_in_prefix(question, address),
-        Check::Client => is_known(question),
+        Check::Client => is_known(question, address),
         Check::Owner => is_own(question, address),
         Check::Fits => is_fitting(question, address),
+        Check::Lasts => is_lasting(question, address),
         Check::Free => is_free_at(question, address),
         Check::Held => is_held(question, address),
     }
@@ -75,11 +78,35 @@ fn is_in_prefix(question: &Question<'_>, address: Option<u32>) -> bool
 }
 
 // Reports whether a subnet serves the message and the client has a row at an address of it.
-fn is_known(question: &Question<'_>) -> bool
+fn is_known(question: &Question<'_>, address: Option<u32>) -> bool
     ensures { let q = asking question.now in result ≡ known_in q (serving_subnet q) }
 {
     match question.subnet {
-        Some(subnet) => knows_client(question, subnet),
+        Some(subnet) => is_known_in(question, subnet, address),
+        None => false,
+    }
+}
+
+// Reports whether the client has a row at an address of a subnet. Mostly it is that of the address
+// that the message is about: then the client's rows are not searched.
+fn is_known_in(question: &Question<'_>, subnet: &Subnet, address: Option<u32>) -> bool
+    ensures { result ≡ known_in (asking question.now) (Some subnet.now) }
+{
+    if is_record_at(question, subnet, address) {
+        true
+    } else {
+        knows_client(question, subnet)
+    }
+}
+
+// Reports whether there is an address, and the client has a row there that is of a subnet.
+fn is_record_at(question: &Question<'_>, subnet: &Subnet, address: Option<u32>) -> bool
+    ensures { result ≡ passes (is_record (asking question.now) subnet.now) address }
+{
+    match address {
+        Some(address) => {
+            is_client_at(question, address) && question.config.spans(subnet, address)
+        }
         None => false,
     }
 }
@@ -101,6 +128,17 @@ fn is_fitting(question: &Question<'_>, address: Option<u32>) -> bool
 {
     match (question.subnet, address) {
         (Some(subnet), Some(address)) => fits(question, subnet, address),
+        _ => false,
+    }
+}
+
+// Reports whether an address may be renewed in the subnet that serves the message.
+fn is_lasting(question: &Question<'_>, address: Option<u32>) -> bool
+    ensures { let q = asking question.now in
+        result ≡ passes_in (lasting_for q) (serving_subnet q) address }
+{
+    match (question.subnet, address) {
+        (Some(subnet), Some(address)) => lasts(question, subnet, address),
         _ => false,
     }
 }

@@ -1,8 +1,9 @@
 ghost use Rattle.std.specs.Prelude.{◌≡◌};
 ghost use Rattle.std.specs.Option.{option_copied};
 ghost use Rattle.kd_rows.specs.Table.{belongs_to};
-ghost use Rattle.kd_lease.specs.Choice.{address_of_value, fitting_for, pool_gives, pooled, same_address, free_for, held_row, holding_state, own_row, past_row, usable, freed_by, requested_address};
-ghost use Rattle.kd_lease.specs.Rules.{asking};
+ghost use Rattle.kd_lease.specs.Choice.{contained, fitting_for, pool_gives, pooled, same_address, free_for, held_row, holding_state, own_row, past_row, usable, freed_by};
+ghost use Rattle.kd_lease.specs.Client.{address_of_value, requested_address};
+ghost use Rattle.kd_lease.specs.Rules.{asking, lasting_for};
 ghost use Rattle.kd_lease.specs.Seeking.{common_in, fitting_with};
 
 use crate::candidates::Choosing;
@@ -24,7 +25,17 @@ pub fn fits(question: &Question<'_>, subnet: &Subnet, address: u32) -> bool
         || is_address(reserved_address(question.message, subnet), address)
 }
 
-// Reports the same when the address that is reserved for the client is already known.
+// Reports whether an address may be renewed in a subnet: it fits, or the client keeps its lease, a
+// pool contains the address, for whichever class, and it is not reserved.
+pub(crate) fn lasts(question: &Question<'_>, subnet: &Subnet, address: u32) -> bool
+    ensures { result ≡ lasting_for (asking question.now) subnet.now address }
+{
+    fits(question, subnet, address)
+        || (question.kept.is_some()
+            && (contains(subnet, address) && !is_reserved(question.config, address)))
+}
+
+// Reports whether an address fits, by the address that is reserved for the client.
 pub(crate) fn fits_with(choosing: &Choosing<'_>, address: u32) -> bool
     ensures { result ≡ fitting_with choosing.now address }
 {
@@ -56,6 +67,17 @@ fn gives_address(names: &Held, pool: &Pool, address: u32) -> bool
     ensures { result ≡ pool_gives names.now pool.now address }
 {
     admits(&pool.class, names) && pool.range.contains(address)
+}
+
+/// Reports whether a pool of the subnet contains an address, in host order, whoever may have it.
+pub fn contains(subnet: &Subnet, address: u32) -> bool
+    ensures { result ≡ contained subnet.now address }
+{
+    subnet
+        .pools
+        .as_slice()
+        .iter()
+        .any(|pool| pool.range.contains(address))
 }
 
 // Reports whether there is an address and it is this one.

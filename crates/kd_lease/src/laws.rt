@@ -1,6 +1,6 @@
 //! What is true of the rules, whatever the program does. Each law is the contract of a function
 //! that does nothing.
-ghost use Rattle.kd_lease.specs.Laws.{EndsAreFounded, EndsDecide, HeldHasNoRank, HeldIsNotGiven, HeldIsNotUsable, NakSetsNone, OneAnswer, OneChange, ServesAlone, ServesByPrefix, SetsNow, StandsAlone};
+ghost use Rattle.kd_lease.specs.Laws.{EndsAreFounded, EndsDecide, HeldHasNoRank, HeldIsNotGiven, HeldIsNotUsable, NakSetsNone, OneAnswer, OneChange, PlaceByHeader, RenewedByClass, ServesAlone, ServesByPrefix, SetsNow, StandsAlone};
 
 /// A row that a message sets has the time of the message as its time of change.
 pub fn sets_now()
@@ -21,6 +21,18 @@ pub fn serves_by_prefix()
 /// Where no subnet is in a shared network, the first subnet that serves a message serves it alone.
 pub fn serves_alone()
     ensures { ServesAlone }
+{}
+
+/// Where relays select no links, or a message came through no relay, its header alone says where it
+/// comes from.
+pub fn place_by_header()
+    ensures { PlaceByHeader }
+{}
+
+/// Where clients keep no leases, a message is served by its place and classes, and an address that
+/// may be renewed fits.
+pub fn renewed_by_class()
+    ensures { RenewedByClass }
 {}
 
 /// A subnet in no network has the addresses of its prefix, and gives its own options and mask.

@@ -2,7 +2,7 @@
 //!
 //! What this layer promises to the one above: a message gets what the rules say for the
 //! configuration and the classes that the message is in (`specs/Change.antt`), in the subnet that
-//! serves it (`specs/SubnetOf.antt`). Its effect on the table of leases is that of
+//! serves it (`specs/SubnetOf.antt`), or in which its client keeps a lease (`specs/Rules.antt`). Its effect on the table of leases is that of
 //! `specs/Rules.antt`, and the address that a client is offered is that of `specs/Choice.antt`;
 //! `specs/Laws.antt` says what is true of these rules for every table. The configured options of a
 //! reply are those that the configuration gives to the client (`specs/Given.antt`); its header and
@@ -26,6 +26,7 @@ mod given;
 mod grounds;
 mod identities;
 mod items;
+mod keeping;
 pub mod laws;
 mod leases;
 mod matter;
@@ -48,20 +49,23 @@ pub use checks::{ending_of, holds};
 pub use client::asks_for;
 pub use decision::{decide, decide_on};
 pub use effects::effect_of;
-pub use fit::{fits, in_pools, is_free, requested_of};
+pub use fit::{contains, fits, in_pools, is_free, requested_of};
 pub use grounds::Ground;
 pub use identities::identity;
+pub use keeping::{first_to_keep, is_to_keep, subnet_kept};
 pub use kd_event::{Destination, Mode, Ports};
 pub use kd_rows::{Row, Rows, State};
 pub use leases::Leases;
 pub use matter::Matter;
 pub use plan::{Outline, Plan, PlanKind};
-pub use question::Question;
+pub use question::{Question, subnet_or};
 pub use ranks::{Ranks, ranks_of};
 pub use recipient::destination;
 pub use reservation::{is_reserved, reservation_of, reservation_options};
 pub use rule::{Check, Ending, Line, Rule};
 pub use search::{is_client_at, is_held_at, knows_client};
 pub use server::{renewed_of, server_of};
-pub use subnet::{comes_by_relay, is_at, place_of, pool_options, serves, subnet_of};
+pub use subnet::{
+    comes_by_relay, is_at, link_selected, place_of, pool_options, serves, subnet_of,
+};
 pub use verdict::{Decision, Verdict};

@@ -1,5 +1,7 @@
 ghost use Rattle.std.specs.Prelude.{◌≡◌, Some, [], ◌∷◌};
-ghost use Rattle.kd_lease.specs.Rules.{IsAbout, IsChosenIn, asking, ciaddr_in, named_server, rule_by, serving_subnet};
+ghost use Rattle.kd_lease.specs.Client.{named_server};
+ghost use Rattle.kd_lease.specs.Kept.{ciaddr_in};
+ghost use Rattle.kd_lease.specs.Rules.{IsAbout, IsChosenIn, asking, rule_by, serving_subnet};
 ghost use Rattle.kd_options.specs.Joined.{value_of};
 ghost use Rattle.kd_options.specs.Kind.{type_number};
 
@@ -70,7 +72,7 @@ fn chosen_for(question: &Question<'_>) -> Option<u32>
 }
 
 // Returns the address that the client says it has.
-fn ciaddr_of(message: &Message<'_>) -> Option<u32>
+pub(crate) fn ciaddr_of(message: &Message<'_>) -> Option<u32>
     ensures { result ≡ ciaddr_in message.now }
 {
     let address = message.header().ciaddr;

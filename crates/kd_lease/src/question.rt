@@ -1,9 +1,11 @@
 ghost use Rattle.std.specs.Prelude.{◌≡◌};
-ghost use Rattle.std.specs.Option.{option_copied};
+ghost use Rattle.std.specs.Option.{option_copied, option_or};
+ghost use Rattle.kd_lease.specs.Kept.{kept_in};
 ghost use Rattle.kd_lease.specs.SubnetOf.{subnet_serving};
 ghost use Rattle.kd_lease.specs.Withholding.{KnowsReserved};
 
 use crate::grounds::Ground;
+use crate::keeping::subnet_kept;
 use crate::subnet::subnet_of;
 use kd_config::{Config, Subnet};
 use kd_machine::Held;
@@ -25,13 +27,17 @@ pub struct Question<'a> {
     pub client: &'a [u8],
     /// The time of the message, in seconds.
     pub moment: u64,
+    /// The subnet in which the client keeps the lease that it renews, if it does.
+    pub kept: Option<&'a Subnet>,
     /// The subnet that serves the message, searched only once.
     pub subnet: Option<&'a Subnet>,
     // The same table, if it knows the reserved addresses.
     pub(crate) known: Option<&'a Withheld>,
     ghost knows: { KnowsReserved config.now rows.now.rows (option_copied known) },
+    ghost keeps: { option_copied kept
+        ≡ kept_in config.now rows.now.rows message.now moment client.now },
     ghost serves: { option_copied subnet
-        ≡ subnet_serving config.now names.now message.now.header },
+        ≡ option_or (option_copied kept) (subnet_serving config.now names.now message.now) },
 }
 
 impl<'a> Question<'a> {
@@ -51,6 +57,7 @@ impl<'a> Question<'a> {
         ensures { asking result ≡ asked_for over.entry.config.now over.entry.rows.now.rows
             names.now message.now moment client.now }
     {
+        let kept = subnet_kept(over, message, client, moment);
         Question {
             config: over.config,
             rows: over.rows,
@@ -59,7 +66,25 @@ impl<'a> Question<'a> {
             client,
             moment,
             known: over.known,
-            subnet: subnet_of(over.config, names, message.header()),
+            kept,
+            subnet: subnet_or(kept, over.config, names, message),
         }
+    }
+}
+
+/// Returns the subnet that serves a message: the one in which its client keeps a lease, if there is
+/// one, or else that of its place and of the classes with these names.
+pub fn subnet_or<'a>(
+    kept: Option<&'a Subnet>,
+    config: &'a Config,
+    names: &Held,
+    message: &Message<'_>,
+) -> Option<&'a Subnet>
+    ensures { option_copied result ≡ option_or (option_copied kept.entry)
+        (subnet_serving config.now names.now message.now) }
+{
+    match kept {
+        Some(subnet) => Some(subnet),
+        None => subnet_of(config, names, message),
     }
 }

@@ -64,7 +64,7 @@ fn keeps(address: u32, subnet: &Subnet) -> bool
 }
 
 // Reports whether a subnet has a reservation of this address.
-fn is_reserved_in(address: u32, subnet: &Subnet) -> bool
+pub(crate) fn is_reserved_in(address: u32, subnet: &Subnet) -> bool
     ensures { result ≡ reserved_in address subnet.now }
 {
     subnet.reservations.has(address)

@@ -26,6 +26,9 @@ pub enum Check {
     /// The address fits: a pool of the subnet has it for the client and it is not reserved, or it is
     /// reserved for the client.
     Fits,
+    /// The address may be renewed: it fits, or the client keeps its lease, a pool contains the address,
+    /// for whichever class, and it is not reserved.
+    Lasts,
     /// The address is free for the client.
     Free,
     /// The client holds the address.
@@ -118,7 +121,7 @@ impl Rule {
                 (Check::Prefix, Ending::Nak),
                 (Check::Client, Ending::Quiet(Reason::NoRecord)),
                 (Check::Owner, Ending::Nak),
-                (Check::Fits, Ending::Nak),
+                (Check::Lasts, Ending::Nak),
             ],
             Rule::Decline => &[
                 (Check::Server, Ending::Quiet(Reason::OtherServer)),

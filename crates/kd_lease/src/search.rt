@@ -2,7 +2,8 @@ ghost use Rattle.std.specs.Prelude.{◌≡◌, None, Some};
 ghost use Rattle.std.specs.List.{list_any};
 ghost use Rattle.kd_lease.specs.Choice.{changed_in, set_later};
 ghost use Rattle.kd_lease.specs.Choice.Rank.{own, past};
-ghost use Rattle.kd_lease.specs.Rules.{asking, bound_state, client_has, held_at, known_in, leased_to, offered_to, offered_state};
+ghost use Rattle.kd_lease.specs.Kept.{bound_state, is_leased_in};
+ghost use Rattle.kd_lease.specs.Rules.{asking, client_has, held_at, known_in, leased_to, offered_to, offered_state};
 ghost use Rattle.kd_lease.specs.Ranks.{IsRanked};
 ghost use Rattle.kd_lease.specs.Seeking.{has_row_in, has_row_of, newer_of, past_at, sought_at};
 ghost use Rattle.kd_rows.specs.Table.{row_at};
@@ -229,10 +230,20 @@ pub fn is_client_at(question: &Question<'_>, address: u32) -> bool
 pub(crate) fn is_leased(question: &Question<'_>, address: u32) -> bool
     ensures { result ≡ leased_to (asking question.now) address }
 {
-    match question.rows.get(address) {
-        Some(row) => {
-            row.is_live(question.moment) && (is_of(question.client, row) && is_bound(row.state))
-        }
+    is_bound_to(
+        question.rows,
+        question.client,
+        question.moment,
+        address,
+    )
+}
+
+// Reports whether a client leases an address at a time, in seconds.
+pub(crate) fn is_bound_to(rows: &Rows, client: &[u8], moment: u64, address: u32) -> bool
+    ensures { result ≡ is_leased_in rows.now.rows moment client.now address }
+{
+    match rows.get(address) {
+        Some(row) => row.is_live(moment) && (is_of(client, row) && is_bound(row.state)),
         None => false,
     }
 }

@@ -1,5 +1,6 @@
 ghost use Rattle.std.specs.Prelude.{◌≡◌};
-ghost use Rattle.kd_lease.specs.Rules.{named_server, other_server, renewed_address};
+ghost use Rattle.kd_lease.specs.Client.{named_server};
+ghost use Rattle.kd_lease.specs.Rules.{other_server, renewed_address};
 
 use crate::fit::{address_in, requested_of};
 use kd_options::Message;

@@ -1,34 +1,48 @@
-ghost use Rattle.std.specs.Prelude.{◌≡◌, ◌==◌, option_copied, true};
+ghost use Rattle.std.specs.Prelude.{◌≡◌, ◌==◌, ◌&&◌, not, option_copied, true};
 ghost use Rattle.std.specs.List.{find, list_any};
 ghost use Rattle.kd_config.specs.Apart.{has};
 ghost use Rattle.kd_lease.specs.Given.{options_of_pool};
-ghost use Rattle.kd_lease.specs.SubnetOf.{class_admits, first_serving, has_place, is_by_relay, message_place, served_by, subnet_serving};
+ghost use Rattle.kd_lease.specs.Client.{selected_link};
+ghost use Rattle.kd_lease.specs.SubnetOf.{class_admits, first_serving, has_place, header_place, is_by_relay, link_of, message_place, served_by, subnet_serving};
 
+use crate::fit::address_in;
 use kd_classes::OptionData;
 use kd_config::{Config, Pool, Subnet};
 use kd_machine::Held;
+use kd_options::Message;
 use kd_wire::{Bytes, Header};
 
-/// Returns the subnet in which a message with this header and with classes of these names is served:
-/// the first whose relays have that of the message, or else, if no subnet has it, whose prefix
-/// contains the place of the message; and the class that it requires, if any, is held. If it is in a
-/// shared network, that is served as one subnet.
+// The sub-option of relay information with the link that a relay selects (RFC 3527 section 2).
+const LINK_SELECTION: u8 = 5;
+
+/// Returns the subnet in which a message with classes of these names is served by its place: the first
+/// whose relays have that of the message, or else, if no subnet has it, whose prefix contains the place
+/// of the message; and the class that it requires, if any, is held. If it is in a shared network, that
+/// is served as one subnet.
 #[tactic(auto, unfolding(crate::specs::SubnetOf::subnet_serving))]
-pub fn subnet_of<'a>(config: &'a Config, names: &Held, header: &Header) -> Option<&'a Subnet>
-    ensures { option_copied result ≡ subnet_serving config.now names.now header.now }
+pub fn subnet_of<'a>(
+    config: &'a Config,
+    names: &Held,
+    message: &Message<'_>,
+) -> Option<&'a Subnet>
+    ensures { option_copied result ≡ subnet_serving config.now names.now message.now }
 {
-    match first_subnet(config, names, header) {
+    match first_subnet(config, names, message) {
         Some(subnet) => Some(config.home(subnet)),
         None => None,
     }
 }
 
 // Returns the first subnet that serves a message.
-fn first_subnet<'a>(config: &'a Config, names: &Held, header: &Header) -> Option<&'a Subnet>
-    ensures { option_copied result ≡ first_serving config.now names.now header.now }
+fn first_subnet<'a>(
+    config: &'a Config,
+    names: &Held,
+    message: &Message<'_>,
+) -> Option<&'a Subnet>
+    ensures { option_copied result ≡ first_serving config.now names.now message.now }
 {
-    let place = place_of(config.server(), header);
-    let by_relay = comes_by_relay(config, names, header);
+    let place = place_of(config, message);
+    let by_relay = comes_by_relay(config, names, message);
     config
         .subnets()
         .iter()
@@ -36,11 +50,19 @@ fn first_subnet<'a>(config: &'a Config, names: &Held, header: &Header) -> Option
 }
 
 /// Reports whether a message comes from a relay that a subnet names as its own, if the client may
-/// be served there. Then the subnets' relays count, and not their prefixes.
-pub fn comes_by_relay(config: &Config, names: &Held, header: &Header) -> bool
-    ensures { result ≡ is_by_relay config.now names.now header.now }
+/// be served there, and the relay selects no link. Then the subnets' relays count, and not their
+/// prefixes.
+pub fn comes_by_relay(config: &Config, names: &Held, message: &Message<'_>) -> bool
+    ensures { result ≡ is_by_relay config.now names.now message.now }
 {
-    header.giaddr != 0 && has_relay_among(header.giaddr, names, config.subnets())
+    link_selected(config, message).is_none() && is_relayed(config, names, message.header().giaddr)
+}
+
+// Reports whether a message comes through a relay, and a subnet that has it may serve the client.
+fn is_relayed(config: &Config, names: &Held, giaddr: u32) -> bool
+    ensures { result ≡ (not (giaddr == 0) && list_any (served_by true giaddr names.now) config.now.subnets) }
+{
+    giaddr != 0 && has_relay_among(giaddr, names, config.subnets())
 }
 
 // Reports whether one of these subnets has the relay, and a client in the classes with these names
@@ -53,10 +75,40 @@ fn has_relay_among(relay: u32, names: &Held, subnets: &[Subnet]) -> bool
         .any(|subnet| serves(true, relay, names, subnet))
 }
 
-/// Returns the place a message comes from, as an address in host order: its relay, else its
-/// client's address, else the server's address.
-pub fn place_of(server: u32, header: &Header) -> u32
-    ensures { result ≡ message_place server header.now }
+/// Returns the place a message comes from, as an address in host order: the link that its relay
+/// selects, else its relay, else its client's address, else the server's address.
+pub fn place_of(config: &Config, message: &Message<'_>) -> u32
+    ensures { result ≡ message_place config.now message.now }
+{
+    match link_selected(config, message) {
+        Some(link) => link,
+        None => place_in(config.server(), message.header()),
+    }
+}
+
+/// Returns the link that the relay of a message selects, as an address in host order (RFC 3527), if
+/// the configuration lets relays do so.
+pub fn link_selected(config: &Config, message: &Message<'_>) -> Option<u32>
+    ensures { result ≡ link_of config.now message.now }
+{
+    if config.extensions().selects_links && message.header().giaddr != 0 {
+        link_in(message)
+    } else {
+        None
+    }
+}
+
+// Returns the link in sub-option 5 of the relay information.
+fn link_in(message: &Message<'_>) -> Option<u32>
+    ensures { result ≡ selected_link message.now }
+{
+    address_in(message.relay(LINK_SELECTION))
+}
+
+// Returns the place a message with this header comes from: its relay, else its client's address,
+// else the server's address.
+fn place_in(server: u32, header: &Header) -> u32
+    ensures { result ≡ header_place server header.now }
 {
     if header.giaddr != 0 {
         header.giaddr

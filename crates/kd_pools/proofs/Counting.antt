@@ -4,7 +4,8 @@ use Rattle.std.specs.Int.{from_bool}
 use Rattle.std.specs.List.{count_by, range_with_len}
 use Rattle.std.proofs.lemmas.List.FromFn.{length-range_with_len}
 use Rattle.std.proofs.lemmas.List.Sums.{count_by-le-length, sum_by_push}
-use Rattle.kd_lease.specs.Rules.{bound_state, offered_state}
+use Rattle.kd_lease.specs.Kept.{bound_state}
+use Rattle.kd_lease.specs.Rules.{offered_state}
 use Rattle.kd_rows.specs.Table.{row_at}
 use Rattle.kd_rows.specs.declared.row.Row.{Row}
 use Rattle.kd_pools.specs.Counts.{counts_of, declined_state, ended_at, free_at, held_in, unused_at}

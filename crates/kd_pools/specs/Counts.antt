@@ -4,7 +4,8 @@ use Rattle.std.specs.Prelude.{ℕ, ◌+◌, ◌-◌, Bool, true, false, not, ◌
 use Rattle.std.specs.List.{count_by, range_with_len}
 use Rattle.kd_config.specs.declared.range.Range.{Range}
 use Rattle.kd_lease.specs.Choice.{has_such, live_row}
-use Rattle.kd_lease.specs.Rules.{bound_state, offered_state}
+use Rattle.kd_lease.specs.Kept.{bound_state}
+use Rattle.kd_lease.specs.Rules.{offered_state}
 use Rattle.kd_rows.specs.Table.{row_at}
 use Rattle.kd_rows.specs.declared.row.Row.{Row}
 use Rattle.kd_rows.specs.declared.row.State.{State}

@@ -1,7 +1,8 @@
 -- What is true of the counts for every configuration, table and time.
 use Rattle.std.specs.Prelude.{◌≡◌, ℕ, true, false, ◌↔◌, Some, None}
 use Rattle.kd_config.specs.declared.subnet.Subnet.{Subnet}
-use Rattle.kd_lease.specs.Choice.{Asking, Choice, client_reservation, has_such, pooled, requested_address, reserved_anywhere}
+use Rattle.kd_lease.specs.Choice.{Asking, Choice, client_reservation, has_such, pooled, reserved_anywhere}
+use Rattle.kd_lease.specs.Client.{requested_address}
 use Rattle.kd_rows.specs.Table.{belongs_to, row_at}
 use Rattle.kd_pools.specs.Counts.{free_at}
 

@@ -5,7 +5,8 @@ use Rattle.std.specs.Int.{from_bool}
 use Rattle.std.specs.List.{flat_map, list_any}
 use Rattle.kd_config.specs.declared.subnet.Subnet.{Subnet}
 use Rattle.kd_lease.specs.Choice.{has_such, live_row}
-use Rattle.kd_lease.specs.Rules.{bound_state, offered_state}
+use Rattle.kd_lease.specs.Kept.{bound_state}
+use Rattle.kd_lease.specs.Rules.{offered_state}
 use Rattle.kd_rows.specs.declared.row.Row.{Row}
 use Rattle.kd_pools.specs.Counts.{declined_state, live_in}
 use Rattle.kd_pools.specs.declared.counts.Counts.{Counts}

@@ -14,7 +14,7 @@ use crate::objects::times::times_of;
 use crate::objects::values::{address_in, check_keys};
 use crate::rules::place::{Place, bad_value, missing};
 use kd_classes::OptionList;
-use kd_config::{Subnet, Times};
+use kd_config::{Extensions, Subnet, Times};
 use kd_wire::Entries;
 use serde_json::Value;
 use std::alloc::Global;
@@ -26,6 +26,8 @@ pub struct Settings {
     pub server: u32,
     /// The lease and offer times, in seconds.
     pub times: Times,
+    /// The extensions of the rules.
+    pub extensions: Extensions,
     /// The options of all replies.
     pub options: OptionList,
     /// The classes.
@@ -77,6 +79,7 @@ fn settings_of_lists(
     Ok(Settings {
         server,
         times,
+        extensions: Extensions::none(),
         options,
         classes,
         subnets,

@@ -14,7 +14,7 @@ use crate::checking::check_keys;
 use crate::keys::{UsualValue, is_usual};
 use crate::objects::class::ClassReader;
 use crate::objects::definition::{Definition, known_definitions};
-use crate::objects::flags::{check_usual, flag_at, is_usual_at};
+use crate::objects::flags::{check_usual, flag_at, flag_or_default, is_usual_at};
 use crate::objects::hooks::check_hooks;
 use crate::objects::host_name::server_names_are_bare;
 use crate::objects::network::subnets_of;
@@ -24,6 +24,7 @@ use crate::objects::subnet::Above;
 use crate::objects::times::{check_shares, shares_in, times_of};
 use crate::tables::ObjectKind;
 use kd_classes::{OptionData, OptionList};
+use kd_config::Extensions;
 use kd_json::objects::faults::SettingsFault;
 use kd_json::objects::lists::entries_of;
 use kd_json::objects::settings::Settings;
@@ -108,6 +109,7 @@ fn settings_of_lists(
 ) -> Result<Settings, SettingsFault>
     ensures { Means Memory result (kea_settings_with known.now options above (view value.now)) }
 {
+    let echoed = flag_or_default(alloc, value, at, "echo-client-id", true)?;
     let classes = entries_of(
         alloc,
         value,
@@ -121,6 +123,7 @@ fn settings_of_lists(
     Ok(Settings {
         server: above.server,
         times: above.times,
+        extensions: Extensions::of_kea(!echoed),
         options,
         classes,
         subnets,

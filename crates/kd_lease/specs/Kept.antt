@@ -1,0 +1,61 @@
+-- The lease that a client keeps as it renews it, whatever its classes (our own choice). A renewal is
+-- sent to the server alone (RFC 2131 section 4.4.5), so no relay adds to it what the client's classes
+-- were chosen by (RFC 3046).
+use Rattle.std.specs.Prelude.{ℕ, Bool, true, false, ◌&&◌, ◌||◌, ◌==◌, List, Option, Some, None, is_none, option_map, if◌then◌else◌}
+use Rattle.std.specs.List.{find}
+use Rattle.kd_config.specs.Configuration.{Configuration}
+use Rattle.kd_config.specs.Networks.{home_of}
+use Rattle.kd_config.specs.declared.subnet.Subnet.{Subnet}
+use Rattle.kd_options.specs.Kind.{type_number}
+use Rattle.kd_options.specs.Message.{Seen}
+use Rattle.kd_options.specs.declared.kind.MessageType.TheVariants as types
+use Rattle.kd_rows.specs.Table.{belongs_to, row_at}
+use Rattle.kd_rows.specs.declared.row.Row.{Row}
+use Rattle.kd_rows.specs.declared.row.State.{State}
+use Rattle.kd_rows.specs.declared.row.State.TheVariants as states
+use Rattle.kd_lease.specs.Choice.{contained, has_such, live_row, reserved_in}
+use Rattle.kd_lease.specs.Client.{kind_of, named_server}
+
+-- the state is that of a lease
+abbrev pub bound_state : State → Bool
+bound_state states.Bound = true
+bound_state other = false
+
+-- a client leases an address at a time: its row is the client's, has not ended, and is bound
+abbrev pub is_leased_in : List Row → ℕ → List ℕ → ℕ → Bool
+is_leased_in rows now client a =
+    has_such (λ row. live_row now row && (belongs_to client row && bound_state row.state))
+    (row_at rows a)
+
+-- the address that the client says it has, unless that is zero
+abbrev pub ciaddr_in : Seen → Option ℕ
+ciaddr_in m = if m.header.ciaddr == 0 then None else Some m.header.ciaddr
+
+-- there is an address, and it passes a test
+abbrev pub passes : (ℕ → Bool) → Option ℕ → Bool
+passes test None = false
+passes test (Some a) = test a
+
+-- a client renews its lease without a relay: a REQUEST that names no server and came through no
+-- relay, for an address that the client has and leases
+abbrev pub renews_lease : List Row → Seen → ℕ → List ℕ → Bool
+renews_lease rows m now client =
+    kind_of m == type_number types.Request
+    && (is_none (named_server m)
+    && (m.header.giaddr == 0 && passes (is_leased_in rows now client) (ciaddr_in m)))
+
+-- a subnet has an address to keep: a pool contains it, or it is reserved
+abbrev pub has_to_keep : ℕ → Subnet → Bool
+has_to_keep a s = contained s a || reserved_in a s
+
+-- the subnet that has an address to keep: the shared network of the first that has it, or that subnet
+-- itself
+abbrev pub subnet_keeping : List Subnet → ℕ → Option Subnet
+subnet_keeping subnets a = option_map (home_of subnets) (find (has_to_keep a) subnets)
+
+-- the subnet in which a client keeps the lease that it renews, if it does. It is in its classes by
+-- what a relay said of it, and no relay says so now: so no class guards the address
+abbrev pub kept_in : Configuration → List Row → Seen → ℕ → List ℕ → Option Subnet
+kept_in config rows m now client =
+    if config.extensions.keeps_leases && renews_lease rows m now client
+    then subnet_keeping config.subnets m.header.ciaddr else None
