@@ -217,6 +217,11 @@ def message_options(chance, root, rows, client, kind):
     if chance.random() < 0.25:
         sizes = [0, 1, 5, 40, 260, 276, 277, 294, 295, 600]
         pairs.append((82, chance.choice([b"\x01\x01x", b"\x01\x00", chance.randbytes(chance.choice(sizes))])))
+    if judge.is_kea(root) and chance.random() < 0.5:
+        link = some_address(chance, root, rows, client)
+        link = written(5, chance.choice([link, link, link, link[:3], link + b"\0"]))
+        pairs = [pair for pair in pairs if pair[0] != 82]
+        pairs.append((82, chance.choice([b"", b"\x01\x01x", b"\x01\x01x"]) + chance.choice([b"", b"", link])))
     return pairs
 
 
@@ -244,13 +249,18 @@ def datagram(chance, root, rows, clients):
     pairs = [(53, bytes([kind]))] + message_options(chance, root, rows, client, kind)
     says_address = chance.random() < {judge.DISCOVER: 0.05, judge.REQUEST: 0.25}.get(kind, 0.85)
     ciaddr = some_address(chance, root, rows, client) if says_address else bytes(4)
+    relay = client.relay
+    own = [row.address for row in rows if row.client == client.identity() and row.state == "Bound"]
+    if judge.is_kea(root) and kind == judge.REQUEST and own and chance.random() < 0.3:
+        ciaddr, relay = chance.choice(own).to_bytes(4, "big"), bytes(4)
+        pairs = [pair for pair in pairs if pair[0] != 54]
     op = chance.choices([1, 2, 3], [97, 2, 1])[0]
     flags = chance.choice([bytes(2), bytes(2), b"\x80\x00", b"\x7f\xff", b"\x81\x23"])
     others = chance.choice([bytes(8), bytes(8), chance.randbytes(8)])
     field, file, sname = spread(chance, pairs)
     header = bytes([op, client.htype, client.hlen, chance.choice([0, 1, 16])]) + chance.randbytes(6) + flags
     chaddr = client.hardware.ljust(16, b"\0")
-    whole = header + ciaddr + others + client.relay + chaddr + sname + file + COOKIE + field
+    whole = header + ciaddr + others + relay + chaddr + sname + file + COOKIE + field
     return whole[: chance.randrange(len(whole))] if chance.random() < 0.01 else whole
 
 

@@ -5,7 +5,7 @@
 
 For each event it prints the line that `kdhcp replay` must print. With `--leases M` it then prints the table of leases at the
 time M. The table is a plain list, and each lookup goes through all of it. The rules are implemented here a second time, from
-RFC 2131, 2132, 3046, 3396, 6842 and the project's own rules. The program was written separately from the server, in another
+RFC 2131, 2132, 3046, 3396, 3527, 6842 and the project's own rules. The program was written separately from the server, in another
 language, and uses none of the server's code.
 
 It supports the class tests that answers.py supports: strings, hexadecimal, option, relay4, pkt4.mac, substring without
@@ -20,7 +20,7 @@ from typing import NamedTuple, Optional
 
 HERE = os.path.dirname(os.path.abspath(__file__))
 sys.path[:0] = [HERE, os.path.join(HERE, "..", "examples", "replay")]
-from answers import classes, given, hexadecimal, number, pool, prefix  # noqa: E402
+from answers import classes, given, hexadecimal, number, pool, prefix, relay_options  # noqa: E402
 from day import COOKIE, address, dotted, readable, unheard, written  # noqa: E402
 
 BUILT_IN = {
@@ -84,6 +84,7 @@ class Asked(NamedTuple):
     found: dict
     held: list
     subnet: Optional[dict]
+    keeps: bool
     client: bytes
 
 
@@ -170,15 +171,44 @@ def parts_of(home):
     return home.get("parts", [home])
 
 
-def subnet_of(root, datagram, held):
+def is_kea(root):
+    """Whether the rules are those of a configuration of Kea's: one with networks, even if there are none."""
+    return "shared-networks" in root
+
+
+def selected_link(root, datagram, found):
+    """The link that a relay selects by sub-option 5 of its information (RFC 3527), or None."""
+    link = relay_options(found).get(5, b"")
+    return number(link) if is_kea(root) and number(datagram[24:28]) and len(link) == 4 else None
+
+
+def subnet_of(root, datagram, found, held):
     """What serves a message: where the first subnet is that admits the client and names its relay, or else contains its place."""
-    relay = number(datagram[24:28])
-    place = relay or number(datagram[12:16]) or server_address(root)
+    relay, link = number(datagram[24:28]), selected_link(root, datagram, found)
+    place = link if link is not None else relay or number(datagram[12:16]) or server_address(root)
     admitted = [(subnet, network) for subnet, network in subnets_of(root) if has_class(class_of(subnet, network), held)]
-    named = [each for each in admitted if relay and dotted(datagram[24:28]) in relays_of(*each)]
+    named = [each for each in admitted if relay and link is None and dotted(datagram[24:28]) in relays_of(*each)]
     for subnet, network in named or [each for each in admitted if contains(each[0], place)]:
         return home_of(subnet, network)
     return None
+
+
+def has_to_keep(subnet, wanted):
+    """Whether an address is in a pool of the subnet, for whichever class, or is reserved there."""
+    ranges = [pool(entry["pool"]) for entry in subnet.get("pools", [])]
+    return any(first <= wanted <= last for first, last in ranges) or wanted in reserved_in(subnet)
+
+
+def kept_subnet(root, rows, now, datagram, found):
+    """Where a client keeps the lease that it renews without a relay, whatever its classes; or None."""
+    at = number(datagram[12:16])
+    names_server = len(found.get(54, b"")) == 4
+    if not is_kea(root) or found[53][0] != REQUEST or names_server or number(datagram[24:28]) or not at:
+        return None
+    row = rows.at(at)
+    if row is None or row.client != identity(datagram, found) or row.state != "Bound" or not is_live(row, now):
+        return None
+    return next((home_of(*each) for each in subnets_of(root) if has_to_keep(each[0], at)), None)
 
 
 # ---- rows
@@ -224,10 +254,14 @@ def reserved(asked):
     return None
 
 
+def reserved_in(subnet):
+    """The addresses of all reservations of a subnet."""
+    return [number(address(entry["ip-address"])) for entry in subnet.get("reservations", [])]
+
+
 def all_reserved(root):
     """The addresses of all reservations of all subnets."""
-    entries = [entry for subnet, _ in subnets_of(root) for entry in subnet.get("reservations", [])]
-    return [number(address(entry["ip-address"])) for entry in entries]
+    return [each for subnet, _ in subnets_of(root) for each in reserved_in(subnet)]
 
 
 def pools(asked):
@@ -240,6 +274,13 @@ def fits(asked, wanted):
     if wanted == reserved(asked):
         return True
     return any(first <= wanted <= last for first, last in pools(asked)) and wanted not in all_reserved(asked.root)
+
+
+def lasts(asked, wanted):
+    """Whether an address may be renewed: it fits, or it is kept in a pool for whichever class, and not reserved."""
+    ranges = [pool(entry["pool"]) for entry in asked.subnet.get("pools", [])]
+    is_in_pool = any(first <= wanted <= last for first, last in ranges)
+    return fits(asked, wanted) or asked.keeps and is_in_pool and wanted not in all_reserved(asked.root)
 
 
 def is_free(asked, wanted):
@@ -334,7 +375,7 @@ def renewing(asked):
     if not any(contains(part, row.address) for row in asked.rows.of(asked.client) for part in parts):
         return "9 NoRecord", None
     row = row_of(asked, wanted)
-    if row is not None and row.client == asked.client and fits(asked, wanted):
+    if row is not None and row.client == asked.client and lasts(asked, wanted):
         return acknowledged(asked, wanted)
     return Plan("NAK", 0), None
 
@@ -410,7 +451,7 @@ def options_of(asked, plan):
     front = written(53, kind) + written(54, address(asked.root["server-address"]))
     if plan.kind in ("OFFER", "ACK"):
         front += times(asked.root)
-    if 61 in found:
+    if 61 in found and asked.root.get("echo-client-id", True):
         front += written(61, found[61])
     back = written(82, found[82]) if 82 in found else b""
     left = room_of(found) - 240 - len(front) - len(back) - 1
@@ -485,8 +526,9 @@ def handle(root, rows, moment, datagram):
     held = classes(root, {}, datagram, found)
     if b"DROP" in held:
         return f"{now} quiet 4 DropClass", rows
-    subnet = subnet_of(root, datagram, held)
-    asked = Asked(root, rows, now, datagram, found, held, subnet, identity(datagram, found))
+    kept = kept_subnet(root, rows, now, datagram, found)
+    subnet = kept or subnet_of(root, datagram, found, held)
+    asked = Asked(root, rows, now, datagram, found, held, subnet, kept is not None, identity(datagram, found))
     words, row = judge(asked)
     return f"{now} {words}", rows if row is None else rows.with_row(row)
 

@@ -1,7 +1,7 @@
 ghost use Rattle.std.specs.Prelude.{◌≡◌, ◌++◌, OnOk, Some, codes, option_copied, string_bytes};
 ghost use Rattle.kd_lease.specs.Choice.{address_reserved, contained, pooled, reserved_anywhere, same_address};
 ghost use Rattle.kd_lease.specs.Kept.{passes};
-ghost use Rattle.kd_lease.specs.Rules.{asking, passes_in, serving_subnet};
+ghost use Rattle.kd_lease.specs.Rules.{asking, kept_subnet, passes_in, serving_subnet};
 ghost use Rattle.kd_listing.specs.Leases.{word_of_live};
 ghost use Rattle.kd_text.specs.Text.{address_text};
 ghost use Rattle.kd_explain.specs.CheckLines.{address_line, address_source, fit_words, fits_line, free_line, held_line, kept_words, known_line, lasts_line, network_word, offer_line, owner_line};
@@ -295,15 +295,22 @@ pub(crate) fn put_lasts(
 {
     put_fit(out, lasts)?;
     put_places(out, matter.question, matter.address)?;
-    out.push_str(kept_phrase(matter.question.kept))?;
+    put_kept(out, matter.question)?;
     Ok(())
 }
 
-// Returns the end of the line, with what is said of the lease that a client keeps.
-fn kept_phrase(kept: Option<&Subnet>) -> &'static str
-    ensures { result.now ≡ kept_words (option_copied kept.entry) }
+// Prints whether the client keeps the lease that it renews, and the end of the line.
+fn put_kept(out: &mut String, question: &Question<'_>) -> Result<(), AllocError>
+    ensures { OnOk result (string_bytes out.new
+        ≡ string_bytes out.old ++ kept_words (kept_subnet (asking question.now))) }
 {
-    match kept {
+    out.push_str(kept_phrase(question))
+}
+
+fn kept_phrase(question: &Question<'_>) -> &'static str
+    ensures { result.now ≡ kept_words (kept_subnet (asking question.now)) }
+{
+    match question.kept {
         Some(_) => ", the client keeps its lease\n",
         None => "\n",
     }

@@ -1,6 +1,6 @@
 -- What a check of a start prints about a configuration: how much it contains, and a line for each
 -- part that is probably a mistake, though a server starts with it.
-use Rattle.std.specs.Prelude.{◌≡◌, ℕ, ◌+◌, ◌-◌, ◌^◌, ◌||◌, Bool, true, false, not, min, is_some, nat_le, nat_lt, if◌then◌else◌, MatchBool}
+use Rattle.std.specs.Prelude.{◌≡◌, ℕ, ◌+◌, ◌-◌, ◌^◌, ◌&&◌, ◌||◌, Bool, true, false, not, min, is_some, nat_le, nat_lt, if◌then◌else◌, MatchBool}
 use Rattle.std.specs.Prelude.{List, [], ◌++◌, Option, None, Some, Result, Ok, Err, codes, decimal, length, option_map, string_bytes}
 use Rattle.std.specs.List.{find, flat_map, list_any}
 use Rattle.std.specs.Str.{bytes_eq}
@@ -65,19 +65,20 @@ def_asks None = false
 def_asks (Some def) = test_asks def.test
 
 -- what is wrong with requiring a class: nobody is in it, because it is neither built in nor defined;
--- or its test asks for what a relay adds, and a client that renews is not relayed
-abbrev pub class_trouble : List ClassDef → List ℕ → Option (List ℕ)
-class_trouble classes class =
-    if not (built_in class || is_some (defined classes class))
+-- or its test asks for what a relay adds, a client that renews is not relayed, and such a client does
+-- not keep its lease
+abbrev pub class_trouble : Configuration → List ℕ → Option (List ℕ)
+class_trouble config class =
+    if not (built_in class || is_some (defined config.classes class))
     then Some (codes ": its client-class is not defined, so it serves nobody\n")
-    else if def_asks (defined classes class)
+    else if not config.extensions.keeps_leases && def_asks (defined config.classes class)
     then Some (codes ": its client-class asks for option 82, which a client that renews does not send, so it does not serve renewals\n")
     else None
 
 -- the same, if a class is required
-abbrev pub required_trouble : List ClassDef → Option (List ℕ) → Option (List ℕ)
-required_trouble classes None = None
-required_trouble classes (Some class) = class_trouble classes class
+abbrev pub required_trouble : Configuration → Option (List ℕ) → Option (List ℕ)
+required_trouble config None = None
+required_trouble config (Some class) = class_trouble config class
 
 -- the line about a subnet
 unfoldable pub subnet_text : List ℕ → Prefix → List ℕ → List ℕ
@@ -136,7 +137,7 @@ address_advice name server prefix pool =
 -- the lines about a pool
 abbrev pub pool_advice : List ℕ → Configuration → Prefix → Pool → List ℕ
 pool_advice name config prefix pool =
-    pool_class_note name pool (required_trouble config.classes pool.class)
+    pool_class_note name pool (required_trouble config pool.class)
     ++ address_advice name config.server prefix pool
 
 -- ---- together
@@ -144,7 +145,7 @@ pool_advice name config prefix pool =
 -- the lines about a subnet
 abbrev pub subnet_advice : List ℕ → Configuration → Subnet → List ℕ
 subnet_advice name config s =
-    subnet_note name s.prefix (required_trouble config.classes s.class)
+    subnet_note name s.prefix (required_trouble config s.class)
     ++ flat_map (pool_advice name config s.prefix) s.pools
 
 -- the lines about a configuration with this name

@@ -123,7 +123,7 @@ fn put_subnet(
     ensures { OnOk result (string_bytes text.new
         ≡ string_bytes text.old ++ subnet_advice name.now config.now subnet.now) }
 {
-    put_class(text, name, config.classes(), subnet)?;
+    put_class(text, name, config, subnet)?;
     put_pools(text, name, config, subnet)?;
     Ok(())
 }
@@ -133,14 +133,14 @@ fn put_subnet(
 fn put_class(
     text: &mut String,
     name: &str,
-    classes: &Classes,
+    config: &Config,
     subnet: &Subnet,
 ) -> Result<(), AllocError>
     ensures { OnOk result (string_bytes text.new ≡ string_bytes text.old
         ++ subnet_note name.now subnet.now.prefix
-        (required_trouble classes.now subnet.now.class)) }
+        (required_trouble config.now subnet.now.class)) }
 {
-    match trouble_of(classes, &subnet.class) {
+    match trouble_of(config, &subnet.class) {
         Some(words) => put_subnet_line(text, name, subnet.prefix, words),
         None => Ok(()),
     }
@@ -163,23 +163,23 @@ fn put_subnet_line(
 }
 
 // Returns, in words, what is wrong with requiring a class, if one is required.
-fn trouble_of(classes: &Classes, class: &Option<Bytes>) -> Option<&'static str>
-    ensures { option_copied result ≡ required_trouble classes.now class.now }
+fn trouble_of(config: &Config, class: &Option<Bytes>) -> Option<&'static str>
+    ensures { option_copied result ≡ required_trouble config.now class.now }
 {
     match class {
-        Some(class) => trouble_with(classes, class.as_slice()),
+        Some(class) => trouble_with(config, class.as_slice()),
         None => None,
     }
 }
 
-fn trouble_with(classes: &Classes, class: &[u8]) -> Option<&'static str>
-    ensures { option_copied result ≡ class_trouble classes.now class.now }
+fn trouble_with(config: &Config, class: &[u8]) -> Option<&'static str>
+    ensures { option_copied result ≡ class_trouble config.now class.now }
 {
-    let found = defined_in(classes, class);
+    let found = defined_in(config.classes(), class);
     if !(is_built_in(class) || found.is_some()) {
         return Some(": its client-class is not defined, so it serves nobody\n");
     }
-    if definition_asks(found) {
+    if !config.extensions().keeps_leases && definition_asks(found) {
         return Some(
             ": its client-class asks for option 82, which a client that renews does not send, so it does not serve renewals\n",
         );
@@ -266,7 +266,7 @@ fn put_pool(
     ensures { OnOk result (string_bytes text.new
         ≡ string_bytes text.old ++ pool_advice name.now config.now prefix pool.now) }
 {
-    put_pool_class(text, name, config.classes(), pool)?;
+    put_pool_class(text, name, config, pool)?;
     put_addresses(text, name, config.server(), prefix, pool)?;
     Ok(())
 }
@@ -293,13 +293,13 @@ fn put_addresses(
 fn put_pool_class(
     text: &mut String,
     name: &str,
-    classes: &Classes,
+    config: &Config,
     pool: &Pool,
 ) -> Result<(), AllocError>
     ensures { OnOk result (string_bytes text.new ≡ string_bytes text.old
-        ++ pool_class_note name.now pool.now (required_trouble classes.now pool.now.class)) }
+        ++ pool_class_note name.now pool.now (required_trouble config.now pool.now.class)) }
 {
-    match trouble_of(classes, &pool.class) {
+    match trouble_of(config, &pool.class) {
         Some(words) => put_pool_class_line(text, name, pool, words),
         None => Ok(()),
     }
