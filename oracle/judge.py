@@ -451,7 +451,7 @@ def options_of(asked, plan):
     front = written(53, kind) + written(54, address(asked.root["server-address"]))
     if plan.kind in ("OFFER", "ACK"):
         front += times(asked.root)
-    if 61 in found and asked.root.get("echo-client-id", True):
+    if 61 in found:
         front += written(61, found[61])
     back = written(82, found[82]) if 82 in found else b""
     left = room_of(found) - 240 - len(front) - len(back) - 1

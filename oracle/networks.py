@@ -5,7 +5,7 @@
 
 The configurations are those of histories.py, with most of their subnets in shared networks: of one to three subnets, with
 options, relays and a class of the network or of its subnets, and pools for a class. Clients come through these relays too.
-Some relays select a link, some clients renew without the relay that says their class, and some replies hide the identifier.
+Some relays select a link, and some clients renew without the relay that says their class.
 """
 import json
 
@@ -50,8 +50,6 @@ def configuration(chance):
     names = [entry["name"] for entry in root["client-classes"] + lines * 3] + ["ALL", "VENDOR_CLASS_b", "none"]
     subnets = [{**subnet, **some_relays(chance)} for subnet in root["subnet4"]]
     root["shared-networks"], root["subnet4"] = [], []
-    if chance.random() < 0.2:
-        root["echo-client-id"] = chance.random() < 0.3
     while subnets:
         count = chance.choice([0, 1, 2, 2, 3])
         taken, subnets = subnets[: count or 1], subnets[count or 1 :]

@@ -1,5 +1,5 @@
 -- A server's configuration, and the built-in one.
-use Rattle.std.specs.Prelude.{ℕ, Bool, true, false, List, [], ◌∷◌, None}
+use Rattle.std.specs.Prelude.{ℕ, true, false, List, [], ◌∷◌, None}
 use Rattle.kd_classes.specs.declared.definition.ClassDef.{ClassDef}
 use Rattle.kd_classes.specs.declared.option_list.OptionData.{OptionData}
 use Rattle.kd_config.specs.declared.extensions.Extensions.{Extensions}
@@ -19,13 +19,11 @@ pub record Configuration : Type 0 where
 
 -- the rules of a configuration in our own format are not extended
 abbrev pub no_extensions : Extensions
-no_extensions =
-    record { selects_links = false; keeps_leases = false; hides_identifiers = false }
+no_extensions = record { selects_links = false; keeps_leases = false }
 
--- the extensions that a configuration of Kea's has, whose replies may hide the client identifier
-abbrev pub extensions_of_kea : Bool → Extensions
-extensions_of_kea hides =
-    record { selects_links = true; keeps_leases = true; hides_identifiers = hides }
+-- those of a configuration of Kea's are
+abbrev pub all_extensions : Extensions
+all_extensions = record { selects_links = true; keeps_leases = true }
 
 -- the times of the built-in configuration
 abbrev pub times_built_in : Times

@@ -1,5 +1,5 @@
 ghost use Rattle.std.specs.Prelude.{◌≡◌};
-ghost use Rattle.kd_config.specs.Configuration.{extensions_of_kea, no_extensions};
+ghost use Rattle.kd_config.specs.Configuration.{all_extensions, no_extensions};
 
 /// Rules of ISC Kea that a configuration in our own format does not have.
 #[derive(Clone, Copy)]
@@ -9,8 +9,6 @@ pub struct Extensions {
     /// A client that renews its lease, without a relay, keeps it although it is not in the class that
     /// its subnet or its pool requires (our own choice).
     pub keeps_leases: bool,
-    /// Replies do not return the client identifier, as before RFC 6842.
-    pub hides_identifiers: bool,
 }
 
 impl Extensions {
@@ -21,18 +19,16 @@ impl Extensions {
         Extensions {
             selects_links: false,
             keeps_leases: false,
-            hides_identifiers: false,
         }
     }
 
-    /// Returns those of a configuration of Kea's, whose replies may hide the client identifier.
-    pub fn of_kea(hides_identifiers: bool) -> Extensions
-        ensures { result ≡ extensions_of_kea hides_identifiers }
+    /// Returns those of a configuration of Kea's: all of them.
+    pub fn all() -> Extensions
+        ensures { result ≡ all_extensions }
     {
         Extensions {
             selects_links: true,
             keeps_leases: true,
-            hides_identifiers,
         }
     }
 }

@@ -160,10 +160,10 @@ keeping_line a s = sought_line s (keeping_words (has_to_keep a s))
 
 -- the lines of the subnets: for the lease that the client keeps in one of them, or else for the place
 -- and the classes of the message
-abbrev pub subnet_lines : Option Subnet → Configuration → List (List ℕ) → Seen → List ℕ
-subnet_lines None config names m =
+abbrev pub served_lines : Option Subnet → Configuration → List (List ℕ) → Seen → List ℕ
+served_lines None config names m =
     sought_lines (is_by_relay config names m) (message_place config m) names config.subnets
-subnet_lines (Some kept) config names m =
+served_lines (Some kept) config names m =
     flat_map (keeping_line m.header.ciaddr) config.subnets
 
 -- ---- its reservation
@@ -239,6 +239,6 @@ found_text config m now e =
     message_lines now m e.client
     ++ (class_lines config.classes e.outcomes.items ++ names_line e.names)
     ++ place_line config m
-    ++ subnet_lines (option_copied e.kept) config e.names m
+    ++ served_lines (option_copied e.kept) config e.names m
     ++ reservation_line (option_copied e.subnet) (option_copied e.reservation)
     ++ chosen_text m e.decision.answer e.ranks

@@ -2,7 +2,7 @@ ghost use Rattle.std.specs.Prelude.{◌≡◌, ◌++◌, OnOk, codes, option_cop
 ghost use Rattle.std.specs.List.{flat_map};
 ghost use Rattle.kd_lease.specs.SubnetOf.{is_by_relay, message_place};
 ghost use Rattle.kd_explain.specs.FoundLines.{class_word, elsewhere_words, header_word, keeping_line, keeping_words, key_word, later_line, later_words, passed_words, place_line, place_word};
-ghost use Rattle.kd_explain.specs.FoundLines.{reservation_line, reserved_line, shares_network, sought_line, sought_lines, subnet_lines};
+ghost use Rattle.kd_explain.specs.FoundLines.{reservation_line, reserved_line, shares_network, sought_line, sought_lines, served_lines};
 
 use crate::text::Scene;
 use crate::words::put_name;
@@ -76,7 +76,7 @@ struct Sought<'a> {
 // it.
 pub(crate) fn put_subnets(out: &mut String, scene: &Scene<'_>) -> Result<(), AllocError>
     ensures { OnOk result (string_bytes out.new ≡ string_bytes out.old
-        ++ subnet_lines (option_copied scene.now.explanation.now.kept) scene.now.config.now
+        ++ served_lines (option_copied scene.now.explanation.now.kept) scene.now.config.now
         scene.now.explanation.now.names scene.now.message.now) }
 {
     match scene.explanation.kept {

@@ -23,7 +23,7 @@ use Rattle.kd_kea.specs.Definitions.{are_apart, kea_definition, kea_definitions,
 use Rattle.kd_kea.specs.Kea.{kea_settings}
 use Rattle.kd_kea.specs.HostName.{has_bare_names, host_name, host_options, may_be_named, server_has_bare_names}
 use Rattle.kd_kea.specs.Keys.{keys_are_read}
-use Rattle.kd_kea.specs.Notes.{KeyNote, ObjectNotes, above_by, all_subnet_notes, around_members, around_of, beside_note, calculated_notes, inside_notes, kea_inside, network_below, network_lists, network_notes, network_own, network_values, outside_in, prefix_given, repeated_notes, repeated_shares, class_notes, data_notes, definition_note, definition_notes, each_described, flag_note, have_refused, host_notes, is_not_failed, is_served_if_given, item_notes, items_of, kea_below, kea_beside, kea_notes, kea_value, usable_definitions, list_notes, listed_notes, lists_by, name_notes, note_on_name, note_unless, notes_at, notes_of_each, number_note, object_notes, option_notes, or_wrong, own_notes, pool_notes, relay_notes, right_definitions, root_notes, server_flags, server_lists, server_notes, server_times, server_values, subnet_lists, subnet_notes, subnet_own, subnet_values, text_note, all_times, value_notes, with_first, required_notes}
+use Rattle.kd_kea.specs.Notes.{KeyNote, ObjectNotes, above_by, all_subnet_notes, around_members, around_of, beside_note, calculated_notes, inside_notes, kea_inside, network_below, network_lists, network_notes, network_own, network_values, outside_in, prefix_given, repeated_notes, repeated_shares, class_notes, data_notes, definition_note, definition_notes, each_described, flag_note, have_refused, host_notes, is_not_failed, is_served_if_given, item_notes, items_of, kea_below, kea_beside, kea_notes, kea_value, usable_definitions, list_notes, listed_notes, lists_by, name_notes, note_on_name, note_unless, notes_at, notes_of_each, number_note, object_notes, option_notes, or_wrong, own_notes, pool_notes, relay_notes, right_definitions, root_notes, server_lists, server_notes, server_times, server_values, subnet_lists, subnet_notes, subnet_own, subnet_values, text_note, all_times, value_notes, with_first, required_notes}
 use Rattle.kd_kea.specs.Network.{above_members, as_member, has_network_form, is_in_one_of, is_interface_of, kea_common, kea_member, kea_network, kea_subnets, may_be_of, one_class}
 use Rattle.kd_kea.specs.Options.{is_served_space, kea_entry, kea_options, server_address}
 use Rattle.kd_kea.specs.Parts.{parts_of_all}
@@ -510,15 +510,13 @@ known_pass d known path e =
 
 -- the classes, and the networks and the subnets
 lists_pass : (known : List Definition) (options : List OptionData) (above : Above) (around : Around) → Fits above around → (path : List ℕ) (d : Data) (settings : Settings) → kea_settings_with known options above d ≡ Some settings
-    → (is_some (flag_given (get (codes "echo-client-id") d)) ≡ true) × (have_refused (listed_notes 256 (class_notes known) (codes "client-classes") path d) ≡ false) × (have_refused (all_subnet_notes around known path d) ≡ false)
+    → (have_refused (listed_notes 256 (class_notes known) (codes "client-classes") path d) ≡ false) × (have_refused (all_subnet_notes around known path d) ≡ false)
 unfolding kea_settings_with kea_subnets all_subnet_notes
 lists_pass known options above around fits path d settings e =
-    let echoed = came_from (flag_or true (get (codes "echo-client-id") d)) _ settings e in
-    let classes = came_from (list_of 256 (kea_class known) (get (codes "client-classes") d)) _ settings echoed.gives in
+    let classes = came_from (list_of 256 (kea_class known) (get (codes "client-classes") d)) _ settings e in
     let subnets = came_from (kea_subnets above known d) _ settings classes.gives in
     let networks = came_from (list_of 256 (kea_network above known) (get (codes "shared-networks") d)) _ subnets.first subnets.is in
     let others = came_from (list_of 256 (kea_subnet above known) (get (codes "subnet4") d)) _ subnets.first networks.gives in (
-      flag_right true (get (codes "echo-client-id") d) echoed.first echoed.is,
       listed_pass 256 (kea_class known) (class_notes known) (class_pass known) (codes "client-classes") path d classes.first classes.is,
       none_in_both (listed_notes 256 (network_notes around known) (codes "shared-networks") path d) (listed_notes 256 (subnet_notes around known) (codes "subnet4") path d)
           (listed_pass 256 (kea_network above known) (network_notes around known) (network_pass above around fits known) (codes "shared-networks") path d networks.first networks.is)
@@ -534,7 +532,7 @@ ServerLists around known path d =
     ++ all_subnet_notes around known path d
 
 server_pass : (server : Option ℕ) → NoneRefused (kea_dhcp4 server) (server_notes server)
-unfolding kea_dhcp4 server_notes server_flags server_lists lists_by all_times
+unfolding kea_dhcp4 server_notes server_lists lists_by all_times
 server_pass server d settings path e =
     let given = came_from (has_server_form d) _ settings e in
     let calculated = came_from (flag_given (get (codes "calculate-tee-times") d)) _ settings given.gives in
@@ -556,8 +554,6 @@ server_pass server d settings path e =
     let values = server_values path d in
     let own_times = server_times path d in
     let flag = flag_note (codes "reservations-out-of-pool") path d in
-    let echo = flag_note (codes "echo-client-id") path d in
-    let flags = server_flags path d in
     let definitions = definition_notes false path d in
     let of_options = option_notes true known.first path d in
     let classes = listed_notes 256 (class_notes known.first) (codes "client-classes") path d in
@@ -566,17 +562,15 @@ server_pass server d settings path e =
     none_in_both (definitions ++ of_options ++ classes) subnets
     (none_in_both (definitions ++ of_options) classes
     (none_in_both definitions of_options (known_pass d known.first path known.is) (options_pass true known.first d options.first path options.is))
-    lists.1)
-    lists.2 in
-    object_none (kea_dhcp4 server d) settings path d (keyed ++ values ++ own_times ++ flags ++ ServerLists around (usable_definitions d) path d) e (is_object server_keys d form.keys)
-    (none_in_both (keyed ++ values ++ own_times ++ flags) (ServerLists around (usable_definitions d) path d)
-    (none_in_both (keyed ++ values ++ own_times) flags
+    lists.0)
+    lists.1 in
+    object_none (kea_dhcp4 server d) settings path d (keyed ++ values ++ own_times ++ flag ++ ServerLists around (usable_definitions d) path d) e (is_object server_keys d form.keys)
+    (none_in_both (keyed ++ values ++ own_times ++ flag) (ServerLists around (usable_definitions d) path d)
+    (none_in_both (keyed ++ values ++ own_times) flag
     (none_in_both (keyed ++ values) own_times
     (none_in_both keyed values (own_pass server_keys path d form.keys) (server_values_pass path d calculated.first form calculated.is shares.0))
     (server_times_pass path d calculated.first times.first calculated.is times.is))
-    (none_in_both flag echo
-    (right (flag_given (get (codes "reservations-out-of-pool") d)) outside.first path (codes "reservations-out-of-pool") outside.is)
-    (unless_none (is_some (flag_given (get (codes "echo-client-id") d))) Wrong path (codes "echo-client-id") lists.0)))
+    (right (flag_given (get (codes "reservations-out-of-pool") d)) outside.first path (codes "reservations-out-of-pool") outside.is))
     (subst (λ (its : List Definition). have_refused (ServerLists around its path d) ≡ false) (sym (known_same d known.first known.is)) all_lists))
 
 value_pass : {A : Type 0} (means : Data → Option A) (notes : ObjectNotes) → NoneRefused means notes → (path : List ℕ) (value : Option Data) (a : A) → (value >>= means) ≡ Some a → have_refused (value_notes notes path value) ≡ false

@@ -26,7 +26,7 @@ use Rattle.kd_kea.specs.Plain.{plain}
 use Rattle.kd_kea.specs.Settings.{has_server_form, kea_dhcp4, kea_root, kea_settings_with}
 use Rattle.kd_kea.specs.Tables.{class_keys, root_keys}
 use Rattle.kd_kea.specs.Times.{has_usual_shares, kea_times, shares_given}
-use Rattle.kd_kea.specs.Values.{flag_given, flag_or}
+use Rattle.kd_kea.specs.Values.{flag_given}
 use Rattle.kd_kea.specs.declared.objects.definition.Definition.{Definition}
 use Rattle.kd_kea.specs.declared.objects.subnet.Above.{Above}
 use Rattle.kd_wire.specs.Steps.{◌>>=◌}
@@ -64,8 +64,7 @@ dhcp4_sound server d s e =
     let options = came_from (kea_options true known.first (get (codes "option-data") d)) _ s known.gives in
     let address = came_from (server_address options.first server) _ s options.gives in
     let above : Above = record { server = address.first; times = times.first; calculated = calculated.first; shares = shares_given d; outside = outside.first; bare = server_has_bare_names d } in
-    let echoed = came_from (flag_or true (get (codes "echo-client-id") d)) _ s address.gives in
-    let classes = came_from (list_of 256 (kea_class known.first) (get (codes "client-classes") d)) _ s echoed.gives in
+    let classes = came_from (list_of 256 (kea_class known.first) (get (codes "client-classes") d)) _ s address.gives in
     let subnets = came_from (kea_subnets above known.first d) _ s classes.gives in
     let sound = subnets_sound above known.first d subnets.first subnets.is in
     subst AreSettings (some_is _ s subnets.gives) (record {

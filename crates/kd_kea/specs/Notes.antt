@@ -594,12 +594,6 @@ lists_by around known path d =
 unfoldable pub server_lists : Option ℕ → ObjectNotes
 server_lists server path d = lists_by (around_of server d) (usable_definitions d) path d
 
--- the notes on the truth values in the value of `Dhcp4`
-unfoldable pub server_flags : ObjectNotes
-server_flags path d =
-    flag_note (codes "reservations-out-of-pool") path d
-    ++ flag_note (codes "echo-client-id") path d
-
 -- the notes of the value of `Dhcp4`, which is at a path, for such a server
 unfoldable pub server_notes : Option ℕ → ObjectNotes
 server_notes server path d =
@@ -607,7 +601,7 @@ server_notes server path d =
     (own_notes server_keys path d
     ++ server_values path d
     ++ server_times path d
-    ++ server_flags path d
+    ++ flag_note (codes "reservations-out-of-pool") path d
     ++ server_lists server path d)
 
 -- the notes of the value of a whole text

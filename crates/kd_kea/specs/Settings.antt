@@ -1,9 +1,9 @@
 -- The object `Dhcp4` and the root of a configuration of Kea's.
-use Rattle.std.specs.Prelude.{ℕ, Bool, true, false, not, ◌&&◌, List, codes, Option, Some, None, is_some}
+use Rattle.std.specs.Prelude.{ℕ, Bool, true, false, ◌&&◌, List, codes, Option, Some, None, is_some}
 use Rattle.serde_json.specs.Data.{Data, array}
 use Rattle.serde_json.specs.Find.{as_object, get}
 use Rattle.kd_classes.specs.declared.option_list.OptionData.{OptionData}
-use Rattle.kd_config.specs.Configuration.{extensions_of_kea}
+use Rattle.kd_config.specs.Configuration.{all_extensions}
 use Rattle.kd_json.specs.Lists.{list_of}
 use Rattle.kd_json.specs.Steps.{must}
 use Rattle.kd_json.specs.declared.objects.settings.Settings.{Settings}
@@ -16,7 +16,7 @@ use Rattle.kd_kea.specs.Network.{kea_subnets}
 use Rattle.kd_kea.specs.Options.{kea_options, sent_to_all, server_address}
 use Rattle.kd_kea.specs.Tables.{root_keys, server_keys}
 use Rattle.kd_kea.specs.Times.{has_usual_shares, kea_times, shares_given}
-use Rattle.kd_kea.specs.Values.{flag_given, flag_or, has_plain, is_plain_if_given}
+use Rattle.kd_kea.specs.Values.{flag_given, has_plain, is_plain_if_given}
 use Rattle.kd_kea.specs.declared.objects.definition.Definition.{Definition}
 use Rattle.kd_kea.specs.declared.objects.subnet.Above.{Above}
 use Rattle.kd_wire.specs.Steps.{◌>>=◌}
@@ -48,10 +48,9 @@ has_server_form d = do
 -- `Dhcp4`, by these definitions of options
 unfoldable pub kea_settings_with : List Definition → List OptionData → Above → Data → Option Settings
 kea_settings_with known options above d = do
-  echoed ← flag_or true (get (codes "echo-client-id") d)
   classes ← list_of 256 (kea_class known) (get (codes "client-classes") d)
   subnets ← kea_subnets above known d
-  Some (record { server = above.server; times = above.times; extensions = extensions_of_kea (not echoed); options = sent_to_all options; classes = classes; subnets = subnets })
+  Some (record { server = above.server; times = above.times; extensions = all_extensions; options = sent_to_all options; classes = classes; subnets = subnets })
 
 -- the settings that the value of `Dhcp4` describes, for a server with this address if no option
 -- has another

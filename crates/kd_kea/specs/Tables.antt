@@ -70,7 +70,7 @@ server_keys =
     ∷ (codes "parked-packet-limit", skipped)
     ∷ (codes "statistic-default-sample-count", skipped)
     ∷ (codes "statistic-default-sample-age", skipped)
-    ∷ (codes "echo-client-id", served)
+    ∷ (codes "echo-client-id", usual (flag true ∷ []))
     ∷ (codes "ip-reservations-unique", usual (flag true ∷ []))
     ∷ (codes "early-global-reservations-lookup", usual (flag false ∷ []))
     ∷ (codes "reservations-lookup-first", usual (flag false ∷ []))

@@ -118,7 +118,7 @@ const SERVER: &[Row] = &[
     ("parked-packet-limit", KeyRule::Skipped),
     ("statistic-default-sample-count", KeyRule::Skipped),
     ("statistic-default-sample-age", KeyRule::Skipped),
-    ("echo-client-id", KeyRule::Served),
+    ("echo-client-id", ON),
     ("ip-reservations-unique", ON),
     ("early-global-reservations-lookup", OFF),
     ("reservations-lookup-first", OFF),

@@ -1,7 +1,7 @@
 -- The options of a reply (RFC 2131 section 4.3.1, table 3; RFC 2132 sections 9.2, 9.6, 9.7, 9.11
 -- and 9.12; RFC 6842 section 3; RFC 3046 section 2.2): which options a reply of each kind has, and
 -- in which order.
-use Rattle.std.specs.Prelude.{ℕ, List, [], ◌∷◌, ◌++◌, Option, Some, None, if◌then◌else◌}
+use Rattle.std.specs.Prelude.{ℕ, List, [], ◌∷◌, ◌++◌, Option, Some, None}
 use Rattle.byteorder.specs.Endian.{big_bytes}
 use Rattle.kd_config.specs.declared.subnet.Subnet.{Subnet}
 use Rattle.kd_config.specs.declared.times.Times.{Times}
@@ -48,16 +48,11 @@ configured_for q kinds.Ack yiaddr = configured_in q (serving_subnet q) yiaddr
 configured_for q kinds.InformAck yiaddr = configured_in q (serving_subnet q) q.message.header.ciaddr
 configured_for q kinds.Nak yiaddr = []
 
--- the client identifier that a reply returns: that of the message, unless replies hide it
-abbrev pub identifier_in : Asking → Option (List ℕ)
-identifier_in q =
-    if q.config.extensions.hides_identifiers then None else value_of 61 q.message.options
-
 -- the options of a reply: type and server, the times of a lease, the client identifier as it came,
 -- the configured options, the relay agent information as it came
 unfoldable pub reply_options : Asking → PlanKind → ℕ → List ReplyOption
 reply_options q kind yiaddr =
     obligatory 53 (plan_type kind ∷ []) ++ obligatory 54 (big_bytes 4 q.config.server)
     ++ times_in kind q.config.times
-    ++ returned 61 (identifier_in q) ++ configured_for q kind yiaddr
+    ++ returned 61 (value_of 61 q.message.options) ++ configured_for q kind yiaddr
     ++ returned 82 (value_of 82 q.message.options)

@@ -1,7 +1,6 @@
 ghost use Rattle.std.specs.Prelude.{◌≡◌, ◌++◌, IfOk, OnOk, map};
-ghost use Rattle.std.specs.Option.{option_copied};
 ghost use Rattle.kd_lease.specs.Plan.{option_of_item};
-ghost use Rattle.kd_lease.specs.ReplyOptions.{configured_for, configured_in, identifier_in, lease_times, reply_options, plan_type, times_in};
+ghost use Rattle.kd_lease.specs.ReplyOptions.{configured_for, configured_in, lease_times, reply_options, plan_type, times_in};
 ghost use Rattle.kd_lease.specs.Rules.{asking, serving_subnet};
 
 use crate::given::put_given;
@@ -40,7 +39,7 @@ pub(crate) fn reply_items(
         alloc,
         &mut list,
         OPTION_CLIENT_IDENTIFIER,
-        identifier_to_return(question),
+        message.option(OPTION_CLIENT_IDENTIFIER),
     )?;
     put_configured_for(alloc, &mut list, question, kind, yiaddr)?;
     put_returned(
@@ -50,18 +49,6 @@ pub(crate) fn reply_items(
         message.option(OPTION_RELAY_INFORMATION),
     )?;
     Ok(Items::own(list))
-}
-
-// Returns the client identifier that a reply returns: that of the message (RFC 6842), unless replies
-// hide it.
-fn identifier_to_return<'a>(question: &Question<'a>) -> Option<&'a [u8]>
-    ensures { option_copied result ≡ identifier_in (asking question.now) }
-{
-    if question.config.extensions().hides_identifiers {
-        None
-    } else {
-        question.message.option(OPTION_CLIENT_IDENTIFIER)
-    }
 }
 
 // Returns the message type of a reply (RFC 2132 section 9.6).

@@ -3,7 +3,7 @@ ghost use Rattle.serde_json.specs.Find.{get};
 ghost use Rattle.serde_json.specs.View.{members_view, view};
 ghost use Rattle.kd_kea.specs.HostName.{has_bare_names};
 ghost use Rattle.kd_kea.specs.Keys.{key_use};
-ghost use Rattle.kd_kea.specs.Notes.{all_subnet_notes, class_notes, data_notes, definition_note, definition_notes, host_notes, key_notes, kind_of_note, listed_notes, lists_by, member_keys, note_below, option_notes, own_notes, pool_notes, relay_notes, required_notes, root_notes, server_flags, server_lists, server_notes, subnet_lists, subnet_notes, subnet_own, subnet_values};
+ghost use Rattle.kd_kea.specs.Notes.{all_subnet_notes, class_notes, data_notes, definition_note, definition_notes, host_notes, key_notes, kind_of_note, listed_notes, lists_by, member_keys, note_below, option_notes, own_notes, pool_notes, relay_notes, required_notes, root_notes, server_lists, server_notes, subnet_lists, subnet_notes, subnet_own, subnet_values};
 ghost use Rattle.kd_kea.specs.Scope.{definitions_in};
 ghost use Rattle.kd_kea.specs.Tables.{key_table, subnet_keys};
 
@@ -69,26 +69,13 @@ impl NotedObject for ServerObject {
         note_keys(&mut inner, server, path, ObjectKind::Server)?;
         note_server_values(&mut inner, server, path)?;
         note_server_times(&mut inner, server, path)?;
-        note_server_flags(&mut inner, server, path)?;
+        note_flag(&mut inner, server, path, "reservations-out-of-pool")?;
         note_server_lists(&mut inner, server, path, self.address)?;
         let reader = ServerReader {
             address: self.address,
         };
         append_checked(notes, inner, &reader, server, path)
     }
-}
-
-// Notes the truth values in the value of `Dhcp4` that are wrong.
-#[tactic(auto, unfolding(crate::specs::Notes::server_flags))]
-fn note_server_flags(
-    notes: &mut NoteList,
-    server: &Value,
-    path: &str,
-) -> Result<(), AllocError>
-    ensures { OnOk result (notes.new ≡ notes.old ++ server_flags path.now (view server.now)) }
-{
-    note_flag(notes, server, path, "reservations-out-of-pool")?;
-    note_flag(notes, server, path, "echo-client-id")
 }
 
 // Notes the lists in the value of `Dhcp4`.

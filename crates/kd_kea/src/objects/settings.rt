@@ -14,7 +14,7 @@ use crate::checking::check_keys;
 use crate::keys::{UsualValue, is_usual};
 use crate::objects::class::ClassReader;
 use crate::objects::definition::{Definition, known_definitions};
-use crate::objects::flags::{check_usual, flag_at, flag_or_default, is_usual_at};
+use crate::objects::flags::{check_usual, flag_at, is_usual_at};
 use crate::objects::hooks::check_hooks;
 use crate::objects::host_name::server_names_are_bare;
 use crate::objects::network::subnets_of;
@@ -109,7 +109,6 @@ fn settings_of_lists(
 ) -> Result<Settings, SettingsFault>
     ensures { Means Memory result (kea_settings_with known.now options above (view value.now)) }
 {
-    let echoed = flag_or_default(alloc, value, at, "echo-client-id", true)?;
     let classes = entries_of(
         alloc,
         value,
@@ -123,7 +122,7 @@ fn settings_of_lists(
     Ok(Settings {
         server: above.server,
         times: above.times,
-        extensions: Extensions::of_kea(!echoed),
+        extensions: Extensions::all(),
         options,
         classes,
         subnets,
