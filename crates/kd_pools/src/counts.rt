@@ -1,7 +1,8 @@
 ghost use Rattle.std.specs.Prelude.{◌≡◌, ◌^◌, not};
 ghost use Rattle.std.specs.Option.{option_copied};
 ghost use Rattle.kd_lease.specs.Choice.{has_such, live_row};
-ghost use Rattle.kd_lease.specs.Rules.{bound_state, offered_state};
+ghost use Rattle.kd_lease.specs.Kept.{bound_state};
+ghost use Rattle.kd_lease.specs.Rules.{offered_state};
 ghost use Rattle.kd_pools.specs.Counts.{declined_state, live_in};
 ghost use Rattle.kd_pools.specs.Walking.{IsAtMost, both_counts, counts_at, no_counts};
 
