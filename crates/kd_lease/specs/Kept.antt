@@ -3,6 +3,7 @@
 -- were chosen by (RFC 3046).
 use Rattle.std.specs.Prelude.{ℕ, Bool, true, false, ◌&&◌, ◌||◌, ◌==◌, List, Option, Some, None, is_none, option_map, if◌then◌else◌}
 use Rattle.std.specs.List.{find}
+use Rattle.kd_config.specs.Address.{has_address}
 use Rattle.kd_config.specs.Configuration.{Configuration}
 use Rattle.kd_config.specs.Networks.{home_of}
 use Rattle.kd_config.specs.declared.subnet.Subnet.{Subnet}
@@ -44,9 +45,9 @@ renews_lease rows m now client =
     && (is_none (named_server m)
     && (m.header.giaddr == 0 && passes (is_leased_in rows now client) (ciaddr_in m)))
 
--- a subnet has an address to keep: a pool contains it, or it is reserved
+-- a subnet has an address to keep: its prefix does, and a pool contains it, or it is reserved
 abbrev pub has_to_keep : ℕ → Subnet → Bool
-has_to_keep a s = contained s a || reserved_in a s
+has_to_keep a s = has_address s.prefix a && (contained s a || reserved_in a s)
 
 -- the subnet that has an address to keep: the shared network of the first that has it, or that subnet
 -- itself
