@@ -23,21 +23,14 @@ pub(crate) fn put_place(out: &mut String, scene: &Scene<'_>) -> Result<(), Alloc
 }
 
 #[tactic(auto, unfolding(crate::specs::FoundLines::place_line))]
-fn put_place_of(
-    out: &mut String,
-    config: &Config,
-    message: &Message<'_>,
-) -> Result<(), AllocError>
+fn put_place_of(out: &mut String, config: &Config, message: &Message<'_>) -> Result<(), AllocError>
     ensures { OnOk result (string_bytes out.new
         ≡ string_bytes out.old ++ place_line config.now message.now) }
 {
     out.push_str("place ")?;
     put_address(out, place_of(config, message))?;
     out.push_str(" ")?;
-    out.push_str(place_source(
-        link_selected(config, message),
-        message.header(),
-    ))?;
+    out.push_str(place_source(link_selected(config, message), message.header()))?;
     out.push_str("\n")
 }
 

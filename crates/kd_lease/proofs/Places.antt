@@ -82,6 +82,6 @@ renewed_by_class q none =
       ap (λ (o : Option Subnet). option_or o (subnet_serving q.config q.names q.message)) kept,
       λ s a. ap (λ (o : Option Subnet). fitting_for q s a || (is_some o && (contained s a && not (reserved_anywhere q.config a)))) kept ∙ or_false (fitting_for q s a),
     ) where
-  or_false : (b : Bool) → (b || false) ≡ b
-  or_false true = refl
-  or_false false = refl
+      or_false : (b : Bool) → (b || false) ≡ b
+      or_false true = refl
+      or_false false = refl

@@ -78,8 +78,8 @@ fn subnet_to_keep(config: &Config, address: u32) -> Option<&Subnet>
     }
 }
 
-/// Returns the first of these subnets that has an address to keep, in host order.
-pub fn first_to_keep(subnets: &[Subnet], address: u32) -> Option<&Subnet>
+// Returns the first of these subnets that has an address to keep, in host order.
+fn first_to_keep(subnets: &[Subnet], address: u32) -> Option<&Subnet>
     ensures { option_copied result ≡ find (has_to_keep address) subnets.now }
 {
     subnets.iter().find(|subnet| is_to_keep(address, subnet))

@@ -52,9 +52,9 @@ pub use effects::effect_of;
 pub use fit::{contains, fits, in_pools, is_free, requested_of};
 pub use grounds::Ground;
 pub use identities::identity;
-pub use keeping::{first_to_keep, is_to_keep, subnet_kept};
 pub use kd_event::{Destination, Mode, Ports};
 pub use kd_rows::{Row, Rows, State};
+pub use keeping::{is_to_keep, subnet_kept};
 pub use leases::Leases;
 pub use matter::Matter;
 pub use plan::{Outline, Plan, PlanKind};
@@ -65,7 +65,5 @@ pub use reservation::{is_reserved, reservation_of, reservation_options};
 pub use rule::{Check, Ending, Line, Rule};
 pub use search::{is_client_at, is_held_at, knows_client};
 pub use server::{renewed_of, server_of};
-pub use subnet::{
-    comes_by_relay, is_at, link_selected, place_of, pool_options, serves, subnet_of,
-};
+pub use subnet::{comes_by_relay, is_at, link_selected, place_of, pool_options, serves, subnet_of};
 pub use verdict::{Decision, Verdict};

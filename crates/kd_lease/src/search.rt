@@ -230,12 +230,7 @@ pub fn is_client_at(question: &Question<'_>, address: u32) -> bool
 pub(crate) fn is_leased(question: &Question<'_>, address: u32) -> bool
     ensures { result ≡ leased_to (asking question.now) address }
 {
-    is_bound_to(
-        question.rows,
-        question.client,
-        question.moment,
-        address,
-    )
+    is_bound_to(question.rows, question.client, question.moment, address)
 }
 
 // Reports whether a client leases an address at a time, in seconds.

@@ -20,11 +20,7 @@ const LINK_SELECTION: u8 = 5;
 /// of the message; and the class that it requires, if any, is held. If it is in a shared network, that
 /// is served as one subnet.
 #[tactic(auto, unfolding(crate::specs::SubnetOf::subnet_serving))]
-pub fn subnet_of<'a>(
-    config: &'a Config,
-    names: &Held,
-    message: &Message<'_>,
-) -> Option<&'a Subnet>
+pub fn subnet_of<'a>(config: &'a Config, names: &Held, message: &Message<'_>) -> Option<&'a Subnet>
     ensures { option_copied result ≡ subnet_serving config.now names.now message.now }
 {
     match first_subnet(config, names, message) {
@@ -34,11 +30,7 @@ pub fn subnet_of<'a>(
 }
 
 // Returns the first subnet that serves a message.
-fn first_subnet<'a>(
-    config: &'a Config,
-    names: &Held,
-    message: &Message<'_>,
-) -> Option<&'a Subnet>
+fn first_subnet<'a>(config: &'a Config, names: &Held, message: &Message<'_>) -> Option<&'a Subnet>
     ensures { option_copied result ≡ first_serving config.now names.now message.now }
 {
     let place = place_of(config, message);
@@ -60,7 +52,8 @@ pub fn comes_by_relay(config: &Config, names: &Held, message: &Message<'_>) -> b
 
 // Reports whether a message comes through a relay, and a subnet that has it may serve the client.
 fn is_relayed(config: &Config, names: &Held, giaddr: u32) -> bool
-    ensures { result ≡ (not (giaddr == 0) && list_any (served_by true giaddr names.now) config.now.subnets) }
+    ensures { result ≡ (not (giaddr == 0)
+        && list_any (served_by true giaddr names.now) config.now.subnets) }
 {
     giaddr != 0 && has_relay_among(giaddr, names, config.subnets())
 }
