@@ -2,13 +2,14 @@
 //!
 //! What this layer promises to the one above: a message gets what the rules say for the
 //! configuration and the classes that the message is in (`specs/Change.antt`), in the subnet that
-//! serves it (`specs/SubnetOf.antt`), or in which its client keeps a lease (`specs/Rules.antt`). Its effect on the table of leases is that of
-//! `specs/Rules.antt`, and the address that a client is offered is that of `specs/Choice.antt`;
-//! `specs/Laws.antt` says what is true of these rules for every table. The configured options of a
-//! reply are those that the configuration gives to the client (`specs/Given.antt`); its header and
-//! its destination are those of `specs/ReplyOf.antt` and `specs/Destination.antt`. All this holds
-//! for every table, whether or not it knows the addresses that the configuration reserves
-//! (`Ground`); the table of `Leases` (`specs/Leases.antt`) knows them and skips them.
+//! serves it (`specs/SubnetOf.antt`), or in which its client keeps a lease (`specs/Kept.antt`). Its
+//! effect on the table of leases is that of `specs/Rules.antt`, and the address that a client is
+//! offered is that of `specs/Choice.antt`; `specs/Laws.antt` says what is true of these rules for
+//! every table. The configured options of a reply are those that the configuration gives to the
+//! client (`specs/Given.antt`); its header and its destination are those of `specs/ReplyOf.antt`
+//! and `specs/Destination.antt`. All this holds for every table, whether or not it knows the
+//! addresses that the configuration reserves (`Ground`); the table of `Leases`
+//! (`specs/Leases.antt`) knows them and skips them.
 #![tactic(auto)]
 
 mod ages;
