@@ -36,7 +36,8 @@ abbrev pub AreFoundFor : Option (List ℕ) → (List ℕ → Asking) → Option 
 AreFoundFor None asks s found = found ≡ None
 AreFoundFor (Some client) asks s found = AreFoundIn (asks client) s found
 
--- the subnet in which a client keeps the lease that it renews, if the message has a client that does
+-- the subnet in which a client keeps the lease that it renews, if the message has a client that
+-- does
 abbrev pub kept_for : Option (List ℕ) → Configuration → List Row → Seen → ℕ → Option Subnet
 kept_for None config rows m now = None
 kept_for (Some client) config rows m now = kept_in config rows m now client

@@ -158,8 +158,8 @@ keeping_words has_it =
 abbrev pub keeping_line : ℕ → Subnet → List ℕ
 keeping_line a s = sought_line s (keeping_words (has_to_keep a s))
 
--- the lines of the subnets: for the lease that the client keeps in one of them, or else for the place
--- and the classes of the message
+-- the lines of the subnets: for the lease that the client keeps in one of them, or else for the
+-- place and the classes of the message
 abbrev pub served_lines : Option Subnet → Configuration → List (List ℕ) → Seen → List ℕ
 served_lines None config names m =
     sought_lines (is_by_relay config names m) (message_place config m) names config.subnets

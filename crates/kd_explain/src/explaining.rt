@@ -78,8 +78,8 @@ pub fn explain<'a>(
     })
 }
 
-// Returns the subnet in which a client keeps the lease that it renews, if the message has a client that
-// does.
+// Returns the subnet in which a client keeps the lease that it renews, if the message has a client
+// that does.
 fn subnet_kept_for<'a>(
     over: Ground<'a>,
     message: &Message<'_>,

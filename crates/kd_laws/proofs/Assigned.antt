@@ -1,5 +1,5 @@
--- The address that a reply assigns has 32 bits: it is of a pool or a reservation of the subnet in which
--- the message is served.
+-- The address that a reply assigns has 32 bits: it is of a pool or a reservation of the subnet in
+-- which the message is served.
 use Rattle.std.proofs.Common.{◌≡◌, ℕ, ◌^◌, ◌<◌, Bool, true, false, not, ◌&&◌, ◌||◌, nat_le, List, [], ◌∷◌, Option, None, Some, ⊎_elim, ◌⊎◌, inl, inr, sym, subst, arith, is_none, is_some}
 use Rattle.std.specs.Prelude.{IfSome, IsSomeAnd, option_map}
 use Rattle.std.specs.List.{AllByRecursion, list_any}

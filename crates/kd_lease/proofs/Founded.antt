@@ -47,7 +47,8 @@ abbrev passed : Asking → Option ℕ → List (Check × Ending) → Type 0
 passed q about [] = Unit {0}
 passed q about (line ∷ lines) = (holds_at q about line.0 ≡ true) × passed q about lines
 
--- if a message passes the checks of a list, it ends as the rule does; otherwise as one of its lines does
+-- if a message passes the checks of a list, it ends as the rule does; otherwise as one of its lines
+-- does
 ended : (q : Asking) (type : MessageType) (about : Option ℕ) (done : Ending) (lines : List (Check × Ending)) → are_plain lines ≡ true
     → (passed q about lines → IsFounded q type about done) → IsFounded q type about (ends_by (find (fails q about) lines) done)
 ended q type about done [] are each = each tt

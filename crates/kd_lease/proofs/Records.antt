@@ -1,5 +1,5 @@
--- A client's record in a subnet: its row with the lowest address in the prefix, or in that of a subnet
--- of the same network, if it has one there.
+-- A client's record in a subnet: its row with the lowest address in the prefix, or in that of a
+-- subnet of the same network, if it has one there.
 use Rattle.std.proofs.Common.{◌≡◌, ℕ, ◌+◌, ◌-◌, ◌<◌, Bool, Bor, true, false, ◌&&◌, ◌||◌, ◌==◌, List, [], ◌∷◌, Option, Some, None, is_some, refl, ap, subst, sym, ◌∙◌, arith, if◌then◌else◌}
 use Rattle.std.specs.List.{list_any}
 use Rattle.std.specs.Option.{option_copied}

@@ -1,6 +1,6 @@
 -- What a message says about its client (RFC 2131 sections 2 and 4.2, RFC 2132 sections 9.6, 9.8,
--- 9.10 and 9.14, RFC 3527): its type, who the client is, which server it names, which options it asks
--- for, how long a reply may be, and the link on which its relay says that it is.
+-- 9.10 and 9.14, RFC 3527): its type, who the client is, which server it names, which options it
+-- asks for, how long a reply may be, and the link on which its relay says that it is.
 use Rattle.std.specs.Prelude.{ℕ, ◌+◌, ◌-◌, ◌*◌, max, min, Bool, true, ◌||◌, ◌==◌, nat_eq, List, [], ◌∷◌, Option, Some, None}
 use Rattle.std.specs.Int.{from_be_bytes, w32}
 use Rattle.std.specs.List.{list_any}

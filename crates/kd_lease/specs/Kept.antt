@@ -1,6 +1,6 @@
--- The lease that a client keeps as it renews it, whatever its classes (our own choice). A renewal is
--- sent to the server alone (RFC 2131 section 4.4.5), so no relay adds to it what the client's classes
--- were chosen by (RFC 3046).
+-- The lease that a client keeps as it renews it, whatever its classes (our own choice). A renewal
+-- is sent to the server alone (RFC 2131 section 4.4.5), so no relay adds to it what the client's
+-- classes were chosen by (RFC 3046).
 use Rattle.std.specs.Prelude.{ℕ, Bool, true, false, ◌&&◌, ◌||◌, ◌==◌, List, Option, Some, None, is_none, option_map, if◌then◌else◌}
 use Rattle.std.specs.List.{find}
 use Rattle.kd_config.specs.Address.{has_address}
@@ -49,8 +49,8 @@ renews_lease rows m now client =
 abbrev pub has_to_keep : ℕ → Subnet → Bool
 has_to_keep a s = has_address s.prefix a && (contained s a || reserved_in a s)
 
--- the subnet that has an address to keep: the shared network of the first that has it, or that subnet
--- itself
+-- the subnet that has an address to keep: the shared network of the first that has it, or that
+-- subnet itself
 abbrev pub subnet_keeping : List Subnet → ℕ → Option Subnet
 subnet_keeping subnets a = option_map (home_of subnets) (find (has_to_keep a) subnets)
 

@@ -123,16 +123,16 @@ ServesAlone =
     → AllByRecursion (λ s. s.network ≡ 0) config.subnets
     → subnet_serving config names m ≡ first_serving config names m
 
--- where relays select no links, or the message came through no relay, its header alone says where it
--- comes from
+-- where relays select no links, or the message came through no relay, its header alone says where
+-- it comes from
 abbrev pub PlaceByHeader : Type 0
 PlaceByHeader =
     (config : Configuration) (m : Seen)
     → (config.extensions.selects_links && not (m.header.giaddr == 0)) ≡ false
     → (link_of config m ≡ None) × (message_place config m ≡ header_place config.server m.header)
 
--- where clients keep no leases, a message is served by its place and classes, and an address that may
--- be renewed fits
+-- where clients keep no leases, a message is served by its place and classes, and an address that
+-- may be renewed fits
 abbrev pub RenewedByClass : Type 0
 RenewedByClass =
     (q : Asking) → q.config.extensions.keeps_leases ≡ false

@@ -132,8 +132,8 @@ abbrev pub serving_subnet : Asking → Option Subnet
 serving_subnet q =
     option_or (kept_subnet q) (subnet_serving q.config q.names q.message)
 
--- an address may be renewed in a subnet: it fits, or the client keeps its lease, a pool contains the
--- address, for whichever class, and it is not reserved
+-- an address may be renewed in a subnet: it fits, or the client keeps its lease, a pool contains
+-- the address, for whichever class, and it is not reserved
 abbrev pub lasting_for : Asking → Subnet → ℕ → Bool
 lasting_for q s a =
     fitting_for q s a
@@ -173,7 +173,8 @@ abbrev pub passes_in : (Subnet → ℕ → Bool) → Option Subnet → Option �
 passes_in test None about = false
 passes_in test (Some s) about = passes (test s) about
 
--- a subnet serves the message, and the client has a row at an address of it, or of its shared network
+-- a subnet serves the message, and the client has a row at an address of it, or of its shared
+-- network
 abbrev pub known_in : Asking → Option Subnet → Bool
 known_in q None = false
 known_in q (Some s) = list_any (λ row. is_record q s row.address) q.rows

@@ -65,8 +65,8 @@ pub fn holds(matter: &Matter<'_>, check: Check) -> bool
     }
 }
 
-// Reports whether the subnet that serves the message, or another of its shared network, has an address
-// in its prefix.
+// Reports whether the subnet that serves the message, or another of its shared network, has an
+// address in its prefix.
 fn is_in_prefix(question: &Question<'_>, address: Option<u32>) -> bool
     ensures { result ≡ passes_in (covers question.now.config.now.subnets)
         (serving_subnet (asking question.now)) address }

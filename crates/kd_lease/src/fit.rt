@@ -16,8 +16,8 @@ use kd_options::Message;
 use kd_options::codes::OPTION_REQUESTED_ADDRESS;
 use kd_rows::{Row, State};
 
-/// Reports whether an address, in host order, fits: a pool of the subnet has it for the client and it
-/// is not reserved, or it is reserved for the client.
+/// Reports whether an address, in host order, fits: a pool of the subnet has it for the client and
+/// it is not reserved, or it is reserved for the client.
 pub fn fits(question: &Question<'_>, subnet: &Subnet, address: u32) -> bool
     ensures { result ≡ fitting_for (asking question.now) subnet.now address }
 {

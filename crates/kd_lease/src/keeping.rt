@@ -85,8 +85,8 @@ fn first_to_keep(subnets: &[Subnet], address: u32) -> Option<&Subnet>
     subnets.iter().find(|subnet| is_to_keep(address, subnet))
 }
 
-/// Reports whether a subnet has an address to keep, in host order: its prefix does, and a pool contains
-/// it, or it is reserved.
+/// Reports whether a subnet has an address to keep, in host order: its prefix does, and a pool
+/// contains it, or it is reserved.
 pub fn is_to_keep(address: u32, subnet: &Subnet) -> bool
     ensures { result ≡ has_to_keep address subnet.now }
 {

@@ -23,11 +23,11 @@ pub enum Check {
     Client,
     /// The row of the address is the client's.
     Owner,
-    /// The address fits: a pool of the subnet has it for the client and it is not reserved, or it is
-    /// reserved for the client.
+    /// The address fits: a pool of the subnet has it for the client and it is not reserved, or it
+    /// is reserved for the client.
     Fits,
-    /// The address may be renewed: it fits, or the client keeps its lease, a pool contains the address,
-    /// for whichever class, and it is not reserved.
+    /// The address may be renewed: it fits, or the client keeps its lease, a pool contains the
+    /// address, for whichever class, and it is not reserved.
     Lasts,
     /// The address is free for the client.
     Free,

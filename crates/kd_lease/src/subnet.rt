@@ -15,10 +15,10 @@ use kd_wire::{Bytes, Header};
 // The sub-option of relay information with the link that a relay selects (RFC 3527 section 2).
 const LINK_SELECTION: u8 = 5;
 
-/// Returns the subnet in which a message with classes of these names is served by its place: the first
-/// whose relays have that of the message, or else, if no subnet has it, whose prefix contains the place
-/// of the message; and the class that it requires, if any, is held. If it is in a shared network, that
-/// is served as one subnet.
+/// Returns the subnet in which a message with classes of these names is served by its place: the
+/// first whose relays have that of the message, or else, if no subnet has it, whose prefix contains
+/// the place of the message; and the class that it requires, if any, is held. If it is in a shared
+/// network, that is served as one subnet.
 #[tactic(auto, unfolding(crate::specs::SubnetOf::subnet_serving))]
 pub fn subnet_of<'a>(config: &'a Config, names: &Held, message: &Message<'_>) -> Option<&'a Subnet>
     ensures { option_copied result ≡ subnet_serving config.now names.now message.now }

@@ -64,9 +64,9 @@ abbrev pub def_asks : Option ClassDef → Bool
 def_asks None = false
 def_asks (Some def) = test_asks def.test
 
--- what is wrong with requiring a class: nobody is in it, because it is neither built in nor defined;
--- or its test asks for what a relay adds, a client that renews is not relayed, and such a client does
--- not keep its lease
+-- what is wrong with requiring a class: nobody is in it, because it is neither built in nor
+-- defined; or its test asks for what a relay adds, a client that renews is not relayed, and such a
+-- client does not keep its lease
 abbrev pub class_trouble : Configuration → List ℕ → Option (List ℕ)
 class_trouble config class =
     if not (built_in class || is_some (defined config.classes class))
@@ -193,7 +193,8 @@ module _ {H N U L R : Type 0} (h : Hosts H N U L R) where
       (is_missing : Bool) × IsFoundMissing host config.server is_missing
       × (text ≡ size_line (name_of file) config ++ advice_lines (name_of file) config is_missing)
 
-  -- what the host remarks on the keys of the file of a configuration: nothing if it has our own form
+  -- what the host remarks on the keys of the file of a configuration: nothing if it has our own
+  -- form
   abbrev pub AreRemarks : H → Files → Form → List ℕ → Type 0
   AreRemarks host files forms.Own remarks = remarks ≡ []
   AreRemarks host files (forms.Kea server) remarks = h.remarked host files remarks
