@@ -1,7 +1,7 @@
 -- What a check of a start prints about a configuration: how much it contains, and a line for each
 -- part that is probably a mistake, though a server starts with it.
-use Rattle.std.specs.Prelude.{◌≡◌, ℕ, ◌+◌, ◌-◌, ◌^◌, ◌&&◌, ◌||◌, Bool, true, false, not, min, is_some, nat_le, nat_lt, if◌then◌else◌, MatchBool}
-use Rattle.std.specs.Prelude.{List, [], ◌++◌, Option, None, Some, Result, Ok, Err, codes, decimal, length, option_map, string_bytes}
+use Rattle.std.specs.Prelude.{◌≡◌, ℕ, ◌+◌, ◌-◌, ◌^◌, ◌&&◌, ◌||◌, ◌==◌, Bool, true, false, not, min, is_none, is_some, nat_le, nat_lt, if◌then◌else◌, MatchBool}
+use Rattle.std.specs.Prelude.{List, [], ◌∷◌, ◌++◌, Option, None, Some, Result, Ok, Err, codes, decimal, length, option_map, string_bytes}
 use Rattle.std.specs.List.{find, flat_map, list_any}
 use Rattle.std.specs.Str.{bytes_eq}
 use Rattle.kd_classes.specs.Order.{built_in}
@@ -11,7 +11,7 @@ use Rattle.kd_trouble.specs.declared.troubles.SocketTrouble.TheVariants as socke
 use Rattle.kd_commands.specs.declared.orders.Files.{Files}
 use Rattle.kd_commands.specs.declared.orders.Form.{Form}
 use Rattle.kd_commands.specs.declared.orders.Form.TheVariants as forms
-use Rattle.kd_config.specs.Address.{prefix_size}
+use Rattle.kd_config.specs.Address.{has_address, prefix_size}
 use Rattle.kd_config.specs.Apart.{has}
 use Rattle.kd_config.specs.Configuration.{Configuration}
 use Rattle.kd_config.specs.declared.pool.Pool.{Pool}
@@ -140,6 +140,35 @@ pool_advice name config prefix pool =
     pool_class_note name pool (required_trouble config pool.class)
     ++ address_advice name config.server prefix pool
 
+-- ---- subnets that no message reaches
+
+-- all addresses of a prefix are those of another one
+abbrev pub is_within : Prefix → Prefix → Bool
+is_within inner outer = nat_le outer.length inner.length && has_address outer inner.address
+
+-- a subnet serves each client of one after it: it has all addresses of the other's prefix, and it is
+-- for no class; and only its prefix leads to the other, which names no relay and is in no network
+abbrev pub hides : Subnet → Subnet → Bool
+hides s other =
+    is_none s.class
+    && (is_within other.prefix s.prefix && (length other.relays == 0 && other.network == 0))
+
+-- the line about a subnet that another one hides
+unfoldable pub hidden_text : List ℕ → Prefix → Prefix → List ℕ
+hidden_text name prefix before =
+    name ++ codes ": subnet " ++ prefix_text prefix.address prefix.length
+    ++ codes ": no client gets an address here, because subnet "
+    ++ prefix_text before.address before.length ++ codes " before it serves them all\n"
+
+-- the line, if it is hidden
+abbrev pub hidden_note : List ℕ → Subnet → Subnet → List ℕ
+hidden_note name s other = if hides s other then hidden_text name other.prefix s.prefix else []
+
+-- the lines about subnets that one of these before them hides
+unfoldable pub hidden_notes : List ℕ → List Subnet → List ℕ
+hidden_notes name [] = []
+hidden_notes name (s ∷ subnets) = flat_map (hidden_note name s) subnets ++ hidden_notes name subnets
+
 -- ---- together
 
 -- the lines about a subnet
@@ -148,10 +177,15 @@ subnet_advice name config s =
     subnet_note name s.prefix (required_trouble config s.class)
     ++ flat_map (pool_advice name config s.prefix) s.pools
 
+-- the lines about all subnets of a configuration
+unfoldable pub all_subnets_advice : List ℕ → Configuration → List ℕ
+all_subnets_advice name config =
+    flat_map (subnet_advice name config) config.subnets ++ hidden_notes name config.subnets
+
 -- the lines about a configuration with this name
 abbrev pub advice_lines : List ℕ → Configuration → Bool → List ℕ
 advice_lines name config is_missing =
-    server_advice name config.server is_missing ++ flat_map (subnet_advice name config) config.subnets
+    server_advice name config.server is_missing ++ all_subnets_advice name config
 
 -- the name of a configuration: the path of its file, as a terminal may show it, or what it is
 abbrev pub name_of : Option (List ℕ) → List ℕ

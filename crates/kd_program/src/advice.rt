@@ -1,9 +1,10 @@
 ghost use Rattle.std.specs.Prelude.{◌≡◌, ◌++◌, ◌||◌, Bool, OnOk, Result, is_some, option_copied, option_map, string_bytes};
 ghost use Rattle.std.specs.List.{flat_map, list_any};
 ghost use Rattle.kd_trouble.specs.declared.troubles.SocketTrouble.{SocketTrouble};
-ghost use Rattle.kd_program.specs.Advice.{IsFoundMissing, address_advice, advice_lines, asks_relay, class_trouble, def_asks, defined, is_absent, last_of, network_lines, pool_advice, pool_class_note, pool_class_text, pool_name, pool_note};
+ghost use Rattle.kd_program.specs.Advice.{IsFoundMissing, address_advice, advice_lines, all_subnets_advice, asks_relay, class_trouble, def_asks, defined, is_absent, last_of, network_lines, pool_advice, pool_class_note, pool_class_text, pool_name, pool_note};
 ghost use Rattle.kd_program.specs.Advice.{pool_text, required_trouble, server_advice, server_text, subnet_advice, subnet_note, subnet_text, test_asks};
 
+use crate::hiding::put_hidden;
 use crate::host::Host;
 use kd_classes::{ClassDef, Classes, is_built_in};
 use kd_config::{Config, Pool, Prefix, Subnet};
@@ -32,7 +33,7 @@ pub(crate) fn put_advice<H: Host>(
     let server = config.server();
     let is_missing = misses(host, server);
     put_server(text, name, server, is_missing)?;
-    put_subnets(text, name, config)?;
+    put_all_subnets(text, name, config)?;
     Ok(())
 }
 
@@ -99,6 +100,18 @@ fn put_server_line(
     text.push_str(": server-address ")?;
     put_address(text, server)?;
     text.push_str(words)?;
+    Ok(())
+}
+
+// Prints the lines about all subnets of a configuration: about each, and about those that no client
+// reaches.
+#[tactic(auto, unfolding(crate::specs::Advice::all_subnets_advice))]
+fn put_all_subnets(text: &mut String, name: &str, config: &Config) -> Result<(), AllocError>
+    ensures { OnOk result (string_bytes text.new
+        ≡ string_bytes text.old ++ all_subnets_advice name.now config.now) }
+{
+    put_subnets(text, name, config)?;
+    put_hidden(text, name, config.subnets())?;
     Ok(())
 }
 

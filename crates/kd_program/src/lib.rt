@@ -10,6 +10,7 @@ mod banner;
 mod checking;
 mod ends;
 mod explaining;
+mod hiding;
 mod host;
 mod importing;
 mod listing;
