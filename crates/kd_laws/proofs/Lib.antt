@@ -10,6 +10,7 @@ pub mod OneStep
 pub mod Opened
 pub mod Ordered
 pub mod Recorded
+pub mod Renewed
 pub mod Replied
 pub mod ReplySteps
 pub mod Reported

@@ -5,5 +5,6 @@ pub mod NoOverlap
 pub mod OneStep
 pub mod Openings
 pub mod Recorded
+pub mod Renewals
 pub mod Replies
 pub mod Sent

@@ -11,6 +11,7 @@
 pub mod calls;
 pub mod lives;
 pub mod overlap;
+pub mod renewals;
 pub mod replays;
 pub mod runs;
 pub mod sent;

@@ -1,0 +1,278 @@
+-- A client that renews its lease without a relay passes all checks, whatever its classes.
+use Rattle.std.proofs.Common.{◌≡◌, ℕ, zero, suc, ◌+◌, ◌-◌, ◌<◌, ◌≤◌, Bool, true, false, not, ◌&&◌, ◌||◌, ◌==◌, List, [], ◌∷◌, Option, None, Some, is_none, is_some, map, option_map, slice_get, refl, sym, ap, subst, ◌∙◌, arith, if◌then◌else◌, ⊎_elim}
+use Rattle.std.specs.List.{find, flat_map, list_any, range_with_len}
+use Rattle.std.specs.Option.{option_or}
+use Rattle.std.proofs.lemmas.Bool.{and_from, and_parts, eq-eqb, eqb-true, false≢true, or_cases, or_left, or_right}
+use Rattle.std.proofs.lemmas.List.Folds.{list_any-append}
+use Rattle.std.proofs.lemmas.Option.{none-some, same_Some, slice_get-map}
+use Rattle.std.proofs.Math.Nat.{le-max_left, le-max_right}
+use Rattle.kd_config.specs.Address.{has_address}
+use Rattle.kd_config.specs.Apart.{has}
+use Rattle.kd_config.specs.Networks.{covers, home_of, is_part, network_at, network_count, network_of, networks_in, pool_for, pools_within, value_or}
+use Rattle.kd_config.specs.declared.pool.Pool.{Pool}
+use Rattle.kd_config.specs.declared.subnet.Subnet.{Subnet}
+use Rattle.kd_lease.proofs.Records.{known_there}
+use Rattle.kd_lease.specs.Choice.{Asking, contained, fitting_for, has_such, live_row, reserved_anywhere, reserved_in}
+use Rattle.kd_lease.specs.Client.{kind_of, named_server, requested_address}
+use Rattle.kd_lease.specs.Kept.{bound_state, ciaddr_in, has_to_keep, is_leased_in, passes, renews_lease, subnet_keeping}
+use Rattle.kd_lease.specs.Laws.{EndsDecide}
+use Rattle.kd_lease.specs.Plan.{Outcome}
+use Rattle.kd_lease.specs.Rules.{Does, IsAbout, IsReplyOf, Makes, checks_in, client_has, ending, ends_by, fails, holds_at, kept_subnet, known_in, lasting_for, leased_row, other_server, passes_in, rule_by, rule_of, serving_subnet}
+use Rattle.kd_lease.specs.SubnetOf.{subnet_serving}
+use Rattle.kd_lease.specs.declared.plan.PlanKind.TheVariants as kinds
+use Rattle.kd_lease.specs.declared.rule.Check.{Check}
+use Rattle.kd_lease.specs.declared.rule.Check.TheVariants as checks
+use Rattle.kd_lease.specs.declared.rule.Ending.{Ending}
+use Rattle.kd_lease.specs.declared.rule.Ending.TheVariants as ends
+use Rattle.kd_lease.specs.declared.rule.Rule.{Rule}
+use Rattle.kd_lease.specs.declared.rule.Rule.TheVariants as rules
+use Rattle.kd_options.specs.Kind.{type_number}
+use Rattle.kd_options.specs.declared.kind.MessageType.TheVariants as types
+use Rattle.kd_rows.specs.Table.{belongs_to, row_at}
+use Rattle.kd_rows.specs.declared.row.Row.{Row}
+use Rattle.kd_laws.specs.Renewals.{RenewalsAreKept, is_pooled_among}
+
+-- ---- what is found in a list
+
+module _ {X : Type 0} where
+  -- if an element passes a test, one is found
+  found : (test : X → Bool) (xs : List X) → list_any test xs ≡ true → (x : X) × (find test xs ≡ Some x)
+  found test [] h = absurd (false≢true h)
+  found test (x ∷ xs) h = by (test x) h (found test xs) where
+    by : (b : Bool) → (b || list_any test xs) ≡ true → (list_any test xs ≡ true → (y : X) × (find test xs ≡ Some y)) → (y : X) × ((if b then Some x else find test xs) ≡ Some y)
+    by true h rest = (x, refl)
+    by false h rest = rest h
+
+  -- it passes the test
+  found_passes : (test : X → Bool) (xs : List X) (x : X) → find test xs ≡ Some x → test x ≡ true
+  found_passes test [] x h = absurd (none-some x h)
+  found_passes test (y ∷ ys) x h = by (test y) refl h (found_passes test ys x) where
+    by : (b : Bool) → test y ≡ b → (if b then Some y else find test ys) ≡ Some x → (find test ys ≡ Some x → test x ≡ true) → test x ≡ true
+    by true e h rest = subst (λ (z : X). test z ≡ true) (same_Some y x h) e
+    by false e h rest = rest h
+
+  -- so an element passes each test that it passes
+  passes_among : (test other : X → Bool) (xs : List X) (x : X) → find test xs ≡ Some x → other x ≡ true → list_any other xs ≡ true
+  passes_among test other [] x h k = absurd (none-some x h)
+  passes_among test other (y ∷ ys) x h k = by (test y) h (passes_among test other ys x) where
+    by : (b : Bool) → (if b then Some y else find test ys) ≡ Some x → (find test ys ≡ Some x → other x ≡ true → list_any other ys ≡ true) → (other y || list_any other ys) ≡ true
+    by true h rest = or_left (other y) (list_any other ys) (subst (λ (z : X). other z ≡ true) (sym (same_Some y x h)) k)
+    by false h rest = or_right (other y) (list_any other ys) (rest h k)
+
+  -- if each element that passes a test passes another, one that passes the first passes the other
+  weaker : (test other : X → Bool) → ((x : X) → test x ≡ true → other x ≡ true) → (xs : List X) → list_any test xs ≡ true → list_any other xs ≡ true
+  weaker test other each [] h = h
+  weaker test other each (x ∷ xs) h =
+      ⊎_elim (λ here. or_left (other x) (list_any other xs) (each x here)) (λ there. or_right (other x) (list_any other xs) (weaker test other each xs there)) (or_cases (test x) (list_any test xs) h)
+
+  -- if no element passes a test, none that is found does
+  none_among : (test other : X → Bool) (xs : List X) (x : X) → find test xs ≡ Some x → list_any other xs ≡ false → other x ≡ false
+  none_among test other xs x h none = by (other x) refl where
+    by : (b : Bool) → other x ≡ b → other x ≡ false
+    by true e = absurd (false≢true (sym none ∙ passes_among test other xs x h e))
+    by false e = e
+
+-- ---- the subnet, or its network
+
+range_get : (a n k : ℕ) → k < n → slice_get (range_with_len a n) k ≡ Some (a + k)
+range_get a zero k less = absurd (omega (arith, less))
+range_get a (suc n) zero less = ap Some (omega arith)
+range_get a (suc n) (suc k) less = range_get (a + 1) n k (omega (arith, less)) ∙ ap Some (omega arith)
+
+-- a network of one of these subnets is counted
+counted : (test : Subnet → Bool) (subnets : List Subnet) (s : Subnet) → find test subnets ≡ Some s → s.network ≤ network_count subnets
+counted test [] s h = absurd (none-some s h)
+counted test (t ∷ subnets) s h = by (test t) h (counted test subnets s) where
+  left : t.network ≤ network_count (t ∷ subnets)
+  left = le-max_left t.network (network_count subnets)
+
+  right : network_count subnets ≤ network_count (t ∷ subnets)
+  right = le-max_right t.network (network_count subnets)
+
+  by : (b : Bool) → (if b then Some t else find test subnets) ≡ Some s → (find test subnets ≡ Some s → s.network ≤ network_count subnets) → s.network ≤ network_count (t ∷ subnets)
+  by true h rest = subst (λ (x : Subnet). x.network ≤ network_count (t ∷ subnets)) (same_Some t s h) left
+  by false h rest = let here = rest h in omega (arith, here, right)
+
+-- what a network's pools contain
+mapped : (class : Option (List ℕ)) (pools : List Pool) (a : ℕ) → list_any (λ p. has p.range a) (map (pool_for class) pools) ≡ list_any (λ p. has p.range a) pools
+mapped class [] a = refl
+mapped class (pool ∷ pools) a = ap (λ b. has pool.range a || b) (mapped class pools a)
+
+within : (n a : ℕ) (subnets : List Subnet) → list_any (λ s. s.network == n && contained s a) subnets ≡ true → list_any (λ p. has p.range a) (flat_map (pools_within n) subnets) ≡ true
+within n a [] h = h
+within n a (s ∷ subnets) h =
+    list_any-append (λ p. has p.range a) (pools_within n s) (flat_map (pools_within n) subnets)
+    ∙ ⊎_elim (λ here. or_left (list_any (λ p. has p.range a) (pools_within n s)) rest (own here)) (λ there. or_right (list_any (λ p. has p.range a) (pools_within n s)) rest (within n a subnets there)) (or_cases (s.network == n && contained s a) (list_any (λ t. t.network == n && contained t a) subnets) h) where
+      rest : Bool
+      rest = list_any (λ p. has p.range a) (flat_map (pools_within n) subnets)
+
+      own : (s.network == n && contained s a) ≡ true → list_any (λ p. has p.range a) (pools_within n s) ≡ true
+      own here =
+          let parts = and_parts (s.network == n) (contained s a) here in
+          ap (λ (b : Bool). list_any (λ p. has p.range a) (if b then map (pool_for s.class) s.pools else [])) parts.0 ∙ (mapped s.class s.pools a ∙ parts.1)
+
+-- the home of a subnet has its addresses, and contains what its pools do
+module _ (subnets : List Subnet) (test : Subnet → Bool) (s : Subnet) (a : ℕ) (there : find test subnets ≡ Some s) (inside : has_address s.prefix a ≡ true) (pooled : contained s a ≡ true) where
+  IsHome : Subnet → Type 0
+  IsHome h = (covers subnets h a ≡ true) × (contained h a ≡ true)
+
+  alone : (s.network == 0) ≡ true → IsHome s
+  unfolding IsHome
+  alone none = (ap (λ (b : Bool). if b then has_address s.prefix a else list_any (is_part s.network a) subnets) none ∙ inside, pooled)
+
+  shared : (s.network == 0) ≡ false → IsHome (network_of subnets s.network)
+  unfolding IsHome network_of
+  shared some =
+      let part = passes_among test (is_part s.network a) subnets s there (and_from (s.network == s.network) (has_address s.prefix a) (itself s.network) inside) in
+      let pool = passes_among test (λ t. t.network == s.network && contained t a) subnets s there (and_from (s.network == s.network) (contained s a) (itself s.network) pooled) in
+      (ap (λ (b : Bool). if b then has_address (network_of subnets s.network).prefix a else list_any (is_part s.network a) subnets) some ∙ part, within s.network a subnets pool) where
+        itself : (n : ℕ) → (n == n) ≡ true
+        itself n = eq-eqb n n refl
+
+  lookup_of : (n : ℕ) → n ≤ network_count subnets → (n == 0) ≡ false → network_at subnets n ≡ Some (network_of subnets n)
+  lookup_of n less none =
+      let some : 0 < n = positive n none in
+      let within : n - 1 < network_count subnets = omega (arith, less, some) in
+      let same : 0 + (n - 1) + 1 ≡ n = omega (arith, some) in
+      ap (λ (b : Bool). if b then None else slice_get (networks_in subnets) (n - 1)) none
+      ∙ slice_get-map (λ i. network_of subnets (i + 1)) (range_with_len 0 (network_count subnets)) (n - 1)
+      ∙ ap (option_map (λ i. network_of subnets (i + 1))) (range_get 0 (network_count subnets) (n - 1) within)
+      ∙ ap (λ (k : ℕ). Some (network_of subnets k)) same where
+        positive : (n : ℕ) → (n == 0) ≡ false → 0 < n
+        positive zero e = absurd (false≢true (sym e))
+        positive (suc n) e = omega arith
+
+  home : IsHome (home_of subnets s)
+  home = by (s.network == 0) refl where
+    by : (b : Bool) → (s.network == 0) ≡ b → IsHome (home_of subnets s)
+    by true e = subst IsHome (sym (ap (λ (b : Bool). value_or (if b then None else slice_get (networks_in subnets) (s.network - 1)) s) e)) (alone e)
+    by false e = subst IsHome (sym (ap (λ (o : Option Subnet). value_or o s) (lookup_of s.network (counted test subnets s there) e))) (shared e)
+
+-- ---- the message
+
+is_none_of : {X : Type 0} (o : Option X) → is_none o ≡ true → o ≡ None
+is_none_of None h = refl
+is_none_of (Some x) h = absurd (false≢true h)
+
+-- the address that the client has, and leases
+leased : (rows : List Row) (now : ℕ) (client : List ℕ) (ciaddr : ℕ) → passes (is_leased_in rows now client) (if ciaddr == 0 then None else Some ciaddr) ≡ true
+    → ((ciaddr == 0) ≡ false) × (is_leased_in rows now client ciaddr ≡ true)
+leased rows now client ciaddr h = by (ciaddr == 0) refl h where
+  by : (b : Bool) → (ciaddr == 0) ≡ b → passes (is_leased_in rows now client) (if b then None else Some ciaddr) ≡ true → ((ciaddr == 0) ≡ false) × (is_leased_in rows now client ciaddr ≡ true)
+  by true e h = absurd (false≢true h)
+  by false e h = (e, h)
+
+-- a row that the client leases is its own
+own_row_of : (client : List ℕ) (now : ℕ) (at : Option Row) → has_such (λ row. live_row now row && (belongs_to client row && bound_state row.state)) at ≡ true → has_such (belongs_to client) at ≡ true
+own_row_of client now None h = absurd (false≢true h)
+own_row_of client now (Some row) h =
+    (and_parts (belongs_to client row) (bound_state row.state) (and_parts (live_row now row) (belongs_to client row && bound_state row.state) h).1).0
+
+-- a message that passes the checks of a list ends as its rule does
+Passed : Asking → Option ℕ → List (Check × Ending) → Type 0
+Passed q about [] = Unit {0}
+Passed q about (line ∷ lines) = (holds_at q about line.0 ≡ true) × Passed q about lines
+
+none_fails : (q : Asking) (about : Option ℕ) (lines : List (Check × Ending)) → Passed q about lines → find (fails q about) lines ≡ None
+unfolding Passed
+none_fails q about [] h = refl
+none_fails q about (line ∷ lines) h = ap (λ (b : Bool). if not b then Some line else find (fails q about) lines) h.0 ∙ none_fails q about lines h.1
+
+module _ (q : Asking) (keeps : q.config.extensions.keeps_leases ≡ true) (renews : renews_lease q.rows q.message q.now q.client ≡ true) (pooled : is_pooled_among q.config.subnets q.message.header.ciaddr ≡ true) (free : reserved_anywhere q.config q.message.header.ciaddr ≡ false) where
+  a : ℕ
+  a = q.message.header.ciaddr
+
+  kind : kind_of q.message ≡ type_number types.Request
+  kind = eqb-true (kind_of q.message) (type_number types.Request) (and_parts (kind_of q.message == type_number types.Request) (is_none (named_server q.message) && (q.message.header.giaddr == 0 && passes (is_leased_in q.rows q.now q.client) (ciaddr_in q.message))) renews).0
+
+  rest : (is_none (named_server q.message) && (q.message.header.giaddr == 0 && passes (is_leased_in q.rows q.now q.client) (ciaddr_in q.message))) ≡ true
+  rest = (and_parts (kind_of q.message == type_number types.Request) (is_none (named_server q.message) && (q.message.header.giaddr == 0 && passes (is_leased_in q.rows q.now q.client) (ciaddr_in q.message))) renews).1
+
+  unnamed : named_server q.message ≡ None
+  unnamed = is_none_of (named_server q.message) (and_parts (is_none (named_server q.message)) (q.message.header.giaddr == 0 && passes (is_leased_in q.rows q.now q.client) (ciaddr_in q.message)) rest).0
+
+  leases : ((a == 0) ≡ false) × (is_leased_in q.rows q.now q.client a ≡ true)
+  unfolding a
+  leases = leased q.rows q.now q.client q.message.header.ciaddr (and_parts (q.message.header.giaddr == 0) (passes (is_leased_in q.rows q.now q.client) (ciaddr_in q.message)) (and_parts (is_none (named_server q.message)) (q.message.header.giaddr == 0 && passes (is_leased_in q.rows q.now q.client) (ciaddr_in q.message)) rest).1).1
+
+  mine : client_has q a ≡ true
+  mine = own_row_of q.client q.now (row_at q.rows a) leases.1
+
+  -- the subnet that has the address
+  first : (s : Subnet) × (find (has_to_keep a) q.config.subnets ≡ Some s)
+  unfolding a
+  first =
+      found (has_to_keep q.message.header.ciaddr) q.config.subnets
+      (weaker (λ s. has_address s.prefix q.message.header.ciaddr && contained s q.message.header.ciaddr) (has_to_keep q.message.header.ciaddr)
+      (λ s h. let parts = and_parts (has_address s.prefix q.message.header.ciaddr) (contained s q.message.header.ciaddr) h in and_from (has_address s.prefix q.message.header.ciaddr) (contained s q.message.header.ciaddr || reserved_in q.message.header.ciaddr s) parts.0 (or_left (contained s q.message.header.ciaddr) (reserved_in q.message.header.ciaddr s) parts.1))
+      q.config.subnets pooled)
+
+  parts : (has_address first.0.prefix a ≡ true) × ((contained first.0 a || reserved_in a first.0) ≡ true)
+  parts = and_parts (has_address first.0.prefix a) (contained first.0 a || reserved_in a first.0) (found_passes (has_to_keep a) q.config.subnets first.0 first.1)
+
+  in_pool : contained first.0 a ≡ true
+  unfolding a
+  in_pool =
+      ⊎_elim (λ it. it) (λ reserved. absurd (false≢true (sym (none_among (has_to_keep q.message.header.ciaddr) (reserved_in q.message.header.ciaddr) q.config.subnets first.0 first.1 free) ∙ reserved)))
+      (or_cases (contained first.0 q.message.header.ciaddr) (reserved_in q.message.header.ciaddr first.0) parts.1)
+
+  its_home : Subnet
+  its_home = home_of q.config.subnets first.0
+
+  is_home : (covers q.config.subnets its_home a ≡ true) × (contained its_home a ≡ true)
+  unfolding its_home IsHome
+  is_home = home q.config.subnets (has_to_keep a) first.0 a first.1 parts.0 in_pool
+
+  kept : kept_subnet q ≡ Some its_home
+  unfolding its_home a
+  kept =
+      ap (λ (b : Bool). if b then subnet_keeping q.config.subnets q.message.header.ciaddr else None) (and_from q.config.extensions.keeps_leases (renews_lease q.rows q.message q.now q.client) keeps renews)
+      ∙ ap (option_map (home_of q.config.subnets)) first.1
+
+  serves : serving_subnet q ≡ Some its_home
+  serves = ap (λ (o : Option Subnet). option_or o (subnet_serving q.config q.names q.message)) kept
+
+  lasts : lasting_for q its_home a ≡ true
+  unfolding a
+  lasts =
+      or_right (fitting_for q its_home q.message.header.ciaddr) (is_some (kept_subnet q) && (contained its_home q.message.header.ciaddr && not (reserved_anywhere q.config q.message.header.ciaddr)))
+      (and_from (is_some (kept_subnet q)) (contained its_home q.message.header.ciaddr && not (reserved_anywhere q.config q.message.header.ciaddr)) (ap is_some kept)
+      (and_from (contained its_home q.message.header.ciaddr) (not (reserved_anywhere q.config q.message.header.ciaddr)) is_home.1 (ap not free)))
+
+  server : holds_at q (Some a) checks.Server ≡ true
+  server = ap (λ (o : Option ℕ). not (other_server q.config.server o)) unnamed
+
+  prefix : holds_at q (Some a) checks.Prefix ≡ true
+  prefix = ap (λ (o : Option Subnet). passes_in (covers q.config.subnets) o (Some a)) serves ∙ is_home.0
+
+  known : holds_at q (Some a) checks.Client ≡ true
+  known = ap (known_in q) serves ∙ sym (known_there q its_home (Some a) (and_from (client_has q a) (covers q.config.subnets its_home a) mine is_home.0))
+
+  renewable_there : holds_at q (Some a) checks.Lasts ≡ true
+  renewable_there = ap (λ (o : Option Subnet). passes_in (lasting_for q) o (Some a)) serves ∙ lasts
+
+  -- so the message passes all checks, and the address is leased
+  passed : Passed q (Some a) (checks_in rules.Renew)
+  unfolding Passed
+  passed = (server, (refl, (ap is_some serves, (prefix, (known, (mine, (renewable_there, tt)))))))
+
+  ruled : rule_of q types.Request ≡ rules.Renew
+  ruled = ap (rule_by types.Request) unnamed
+
+  about : IsAbout q (rule_of q types.Request) (Some a)
+  unfolding a
+  about =
+      subst (λ (r : Rule). IsAbout q r (Some q.message.header.ciaddr)) (sym ruled)
+      (sym (ap (λ (b : Bool). if b then requested_address q.message else Some q.message.header.ciaddr) leases.0))
+
+  leases_it : ending q (Some a) (rule_of q types.Request) ≡ ends.Lease
+  leases_it = ap (ending q (Some a)) ruled ∙ ap (λ (o : Option (Check × Ending)). ends_by o ends.Lease) (none_fails q (Some a) (checks_in rules.Renew) passed)
+
+  begins_anew : EndsDecide → (set : Option Row) (outcome : Outcome) → Does q set outcome → (set ≡ Some (leased_row q q.message.header.ciaddr)) × IsReplyOf kinds.Ack q.message.header.ciaddr outcome
+  unfolding a
+  begins_anew decide set outcome does =
+      subst (λ (e : Ending). Makes q (Some q.message.header.ciaddr) e set outcome) leases_it (decide q types.Request (Some q.message.header.ciaddr) set outcome (sym kind) about does)
+
+-- a renewal without a relay is kept
+pub renewals_kept : EndsDecide → RenewalsAreKept
+renewals_kept decide q set outcome keeps renews pooled free does = begins_anew q keeps renews pooled free decide set outcome does
