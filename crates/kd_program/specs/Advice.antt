@@ -143,15 +143,15 @@ pool_advice name config prefix pool =
 -- ---- subnets that no message reaches
 
 -- all addresses of a prefix are those of another one
-abbrev pub is_within : Prefix → Prefix → Bool
-is_within inner outer = nat_le outer.length inner.length && has_address outer inner.address
+abbrev pub is_subprefix : Prefix → Prefix → Bool
+is_subprefix inner outer = nat_le outer.length inner.length && has_address outer inner.address
 
 -- a subnet serves each client of one after it: it has all addresses of the other's prefix, and it is
 -- for no class; and only its prefix leads to the other, which names no relay and is in no network
 abbrev pub hides : Subnet → Subnet → Bool
 hides s other =
     is_none s.class
-    && (is_within other.prefix s.prefix && (length other.relays == 0 && other.network == 0))
+    && (is_subprefix other.prefix s.prefix && (length other.relays == 0 && other.network == 0))
 
 -- the line about a subnet that another one hides
 unfoldable pub hidden_text : List ℕ → Prefix → Prefix → List ℕ

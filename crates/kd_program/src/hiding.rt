@@ -1,6 +1,6 @@
 ghost use Rattle.std.specs.Prelude.{◌≡◌, ◌++◌, OnOk, string_bytes};
 ghost use Rattle.std.specs.List.{flat_map};
-ghost use Rattle.kd_program.specs.Advice.{hidden_note, hidden_notes, hidden_text, hides, is_within};
+ghost use Rattle.kd_program.specs.Advice.{hidden_note, hidden_notes, hidden_text, hides, is_subprefix};
 
 use kd_config::{Prefix, Subnet};
 use kd_text::put_prefix;
@@ -67,7 +67,7 @@ fn is_hiding(subnet: &Subnet, other: &Subnet) -> bool
 
 // Reports whether all addresses of a prefix are those of another one.
 fn is_inside(inner: Prefix, outer: Prefix) -> bool
-    ensures { result ≡ is_within inner outer }
+    ensures { result ≡ is_subprefix inner outer }
 {
     outer.length <= inner.length && outer.contains(inner.address)
 }
