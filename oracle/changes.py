@@ -107,7 +107,7 @@ class Promises:
         found = judge.readable(message)
         if found is None:
             return None
-        client, kind = judge.identity(message, found), found[53][0]
+        client, kind = judge.identity(root, message, found), found[53][0]
         now, words = int(line.split(" ")[0]), line.split(" ")
         reply = bytes.fromhex(words[4]) if words[1] == "reply" else b""
         # The message type is the first option of a reply.

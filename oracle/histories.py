@@ -149,14 +149,15 @@ class Client:
         self.vendor = chance.choice([None, None] + VENDORS)
         self.relay = None
 
-    def identity(self):
+    def identity(self, root):
         kind_and_address = bytes([0, self.htype]) + self.hardware.ljust(16, b"\0")[: min(self.hlen, 16)]
-        return b"\x01" + self.identifier if self.identifier else kind_and_address
+        is_by_hardware = not root.get("match-client-id", True) and self.hlen > 0
+        return b"\x01" + self.identifier if self.identifier and not is_by_hardware else kind_and_address
 
 
 def some_address(chance, root, rows, client):
     """An address that is likely to matter: of a row, of a pool or next to it, of a reservation, or a random one."""
-    own = [row.address for row in rows if row.client == client.identity()]
+    own = [row.address for row in rows if row.client == client.identity(root)]
     pools = [judge.pool(entry["pool"]) for subnet, _ in judge.subnets_of(root) for entry in subnet["pools"]]
     likely = [row.address for row in rows] + judge.all_reserved(root)
     likely += [each for first, last in pools for each in (first - 1, first, last, last + 1)]
@@ -250,7 +251,7 @@ def datagram(chance, root, rows, clients):
     says_address = chance.random() < {judge.DISCOVER: 0.05, judge.REQUEST: 0.25}.get(kind, 0.85)
     ciaddr = some_address(chance, root, rows, client) if says_address else bytes(4)
     relay = client.relay
-    own = [row.address for row in rows if row.client == client.identity() and row.state == "Bound"]
+    own = [row.address for row in rows if row.client == client.identity(root) and row.state == "Bound"]
     if judge.is_kea(root) and kind == judge.REQUEST and own and chance.random() < 0.3:
         ciaddr, relay = chance.choice(own).to_bytes(4, "big"), bytes(4)
         pairs = [pair for pair in pairs if pair[0] != 54]

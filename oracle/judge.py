@@ -103,11 +103,14 @@ def mac(datagram):
     return datagram[28 : 28 + min(datagram[2], 16)]
 
 
-def identity(datagram, found):
-    """The identity of the client: 1 and its identifier, or else 0, the hardware type and the hardware address."""
-    if found.get(61):
+def identity(root, datagram, found):
+    """The identity of the client: 1 and its identifier, or else 0, the hardware type and the hardware address.
+
+    With match-client-id false the hardware comes first."""
+    by_hardware = b"\x00" + datagram[1:2] + mac(datagram)
+    if found.get(61) and (root.get("match-client-id", True) or not mac(datagram)):
         return b"\x01" + found[61]
-    return b"\x00" + datagram[1:2] + mac(datagram)
+    return by_hardware
 
 
 def ciaddr(asked):
@@ -206,7 +209,7 @@ def kept_subnet(root, rows, now, datagram, found):
     if not is_kea(root) or found[53][0] != REQUEST or names_server or number(datagram[24:28]) or not at:
         return None
     row = rows.at(at)
-    if row is None or row.client != identity(datagram, found) or row.state != "Bound" or not is_live(row, now):
+    if row is None or row.client != identity(root, datagram, found) or row.state != "Bound" or not is_live(row, now):
         return None
     return next((home_of(*each) for each in subnets_of(root) if has_to_keep(each[0], at)), None)
 
@@ -372,7 +375,8 @@ def renewing(asked):
     parts = parts_of(asked.subnet)
     if not any(contains(part, wanted) for part in parts):
         return Plan("NAK", 0), None
-    if not any(contains(part, row.address) for row in asked.rows.of(asked.client) for part in parts):
+    is_known = any(contains(part, row.address) for row in asked.rows.of(asked.client) for part in parts)
+    if not is_known and not asked.root.get("authoritative", False):
         return "9 NoRecord", None
     row = row_of(asked, wanted)
     if row is not None and row.client == asked.client and lasts(asked, wanted):
@@ -528,7 +532,7 @@ def handle(root, rows, moment, datagram):
         return f"{now} quiet 4 DropClass", rows
     kept = kept_subnet(root, rows, now, datagram, found)
     subnet = kept or subnet_of(root, datagram, found, held)
-    asked = Asked(root, rows, now, datagram, found, held, subnet, kept is not None, identity(datagram, found))
+    asked = Asked(root, rows, now, datagram, found, held, subnet, kept is not None, identity(root, datagram, found))
     words, row = judge(asked)
     return f"{now} {words}", rows if row is None else rows.with_row(row)
 

@@ -5,7 +5,8 @@
 
 The configurations are those of histories.py, with most of their subnets in shared networks: of one to three subnets, with
 options, relays and a class of the network or of its subnets, and pools for a class. Clients come through these relays too.
-Some relays select a link, and some clients renew without the relay that says their class.
+Some relays select a link, and some clients renew without the relay that says their class. Some servers are authoritative, and
+some ignore client identifiers.
 """
 import json
 
@@ -47,6 +48,10 @@ def configuration(chance):
         root.pop(key, None)
     lines = [{"name": "line", "test": "relay4[1].exists"}] if chance.random() < 0.5 else []
     root["client-classes"] += lines
+    if chance.random() < 0.4:
+        root["authoritative"] = chance.choice([True, True, False])
+    if chance.random() < 0.4:
+        root["match-client-id"] = chance.choice([False, False, True])
     names = [entry["name"] for entry in root["client-classes"] + lines * 3] + ["ALL", "VENDOR_CLASS_b", "none"]
     subnets = [{**subnet, **some_relays(chance)} for subnet in root["subnet4"]]
     root["shared-networks"], root["subnet4"] = [], []

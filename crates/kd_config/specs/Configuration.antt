@@ -1,5 +1,5 @@
 -- A server's configuration, and the built-in one.
-use Rattle.std.specs.Prelude.{ℕ, true, false, List, [], ◌∷◌, None}
+use Rattle.std.specs.Prelude.{ℕ, Bool, true, false, List, [], ◌∷◌, None}
 use Rattle.kd_classes.specs.declared.definition.ClassDef.{ClassDef}
 use Rattle.kd_classes.specs.declared.option_list.OptionData.{OptionData}
 use Rattle.kd_config.specs.declared.extensions.Extensions.{Extensions}
@@ -19,11 +19,24 @@ pub record Configuration : Type 0 where
 
 -- the rules of a configuration in our own format are not extended
 abbrev pub no_extensions : Extensions
-no_extensions = record { selects_links = false; keeps_leases = false }
+no_extensions =
+    record {
+      selects_links = false;
+      keeps_leases = false;
+      is_authoritative = false;
+      ignores_client_ids = false;
+    }
 
--- those of a configuration of Kea's are
-abbrev pub all_extensions : Extensions
-all_extensions = record { selects_links = true; keeps_leases = true }
+-- those of a configuration of Kea's are: relays select links, clients keep leases, and whether the
+-- server is authoritative and ignores client identifiers is as its file says
+abbrev pub kea_extensions : Bool → Bool → Extensions
+kea_extensions is_authoritative ignores_client_ids =
+    record {
+      selects_links = true;
+      keeps_leases = true;
+      is_authoritative = is_authoritative;
+      ignores_client_ids = ignores_client_ids;
+    }
 
 -- the times of the built-in configuration
 abbrev pub times_built_in : Times

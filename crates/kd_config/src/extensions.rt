@@ -1,5 +1,5 @@
 ghost use Rattle.std.specs.Prelude.{◌≡◌};
-ghost use Rattle.kd_config.specs.Configuration.{all_extensions, no_extensions};
+ghost use Rattle.kd_config.specs.Configuration.{kea_extensions, no_extensions};
 
 /// Rules of ISC Kea that a configuration in our own format does not have.
 #[derive(Clone, Copy)]
@@ -9,6 +9,13 @@ pub struct Extensions {
     /// A client that renews its lease, without a relay, keeps it although it is not in the class that
     /// its subnet or its pool requires (our own choice).
     pub keeps_leases: bool,
+    /// The server is the authority on its subnets: a client of which it has no record, and that asks
+    /// for an address again, gets a NAK instead of no reply (Kea Administrator Reference Manual,
+    /// Authoritative DHCPv4 Server Behavior).
+    pub is_authoritative: bool,
+    /// A client is known by its hardware, whatever client identifier it sends (Kea Administrator
+    /// Reference Manual, Using Client Identifier and Hardware Address).
+    pub ignores_client_ids: bool,
 }
 
 impl Extensions {
@@ -19,16 +26,21 @@ impl Extensions {
         Extensions {
             selects_links: false,
             keeps_leases: false,
+            is_authoritative: false,
+            ignores_client_ids: false,
         }
     }
 
-    /// Returns those of a configuration of Kea's: all of them.
-    pub fn all() -> Extensions
-        ensures { result ≡ all_extensions }
+    /// Returns those of a configuration of Kea's: relays select links and clients keep leases, and
+    /// the other two are as the file says.
+    pub fn of_kea(is_authoritative: bool, ignores_client_ids: bool) -> Extensions
+        ensures { result ≡ kea_extensions is_authoritative ignores_client_ids }
     {
         Extensions {
             selects_links: true,
             keeps_leases: true,
+            is_authoritative,
+            ignores_client_ids,
         }
     }
 }

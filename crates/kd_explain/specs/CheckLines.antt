@@ -87,10 +87,12 @@ prefix_line has_it =
     if has_it then codes "check prefix: has the address\n"
     else codes "check prefix: does not have the address\n"
 
--- whether the client has a row at an address of the subnet, or of its shared network
-abbrev pub known_line : Bool → List ℕ
-known_line is_known =
-    if is_known then codes "check client: known in the subnet\n"
+-- whether the client has a row at an address of the subnet, or of its shared network; an
+-- authoritative server does not ask
+abbrev pub known_line : Bool → Bool → List ℕ
+known_line is_authoritative is_known =
+    if is_authoritative then codes "check client: not asked, the server is authoritative\n"
+    else if is_known then codes "check client: known in the subnet\n"
     else codes "check client: not known in the subnet\n"
 
 -- a row at a time, if there is one
@@ -167,7 +169,8 @@ rule_line q rule a checks.Address = address_line a (address_source rule q.messag
 rule_line q rule a checks.Choice = []
 rule_line q rule a checks.Subnet = served_line (serving_subnet q)
 rule_line q rule a checks.Prefix = prefix_line (holds_at q a checks.Prefix)
-rule_line q rule a checks.Client = known_line (holds_at q a checks.Client)
+rule_line q rule a checks.Client =
+    known_line q.config.extensions.is_authoritative (holds_at q a checks.Client)
 rule_line q rule a checks.Owner = row_line_at q a ++ owner_line (holds_at q a checks.Owner)
 rule_line q rule a checks.Fits = fits_line (holds_at q a checks.Fits) q a
 rule_line q rule a checks.Lasts = lasts_line (holds_at q a checks.Lasts) q a

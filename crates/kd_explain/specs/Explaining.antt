@@ -7,7 +7,7 @@ use Rattle.kd_config.specs.declared.reservation.Reservation.{Reservation}
 use Rattle.kd_config.specs.declared.subnet.Subnet.{Subnet}
 use Rattle.kd_lease.specs.Change.{Decides, asked_for}
 use Rattle.kd_lease.specs.Choice.{Asking, client_reservation}
-use Rattle.kd_lease.specs.Client.{client_identity}
+use Rattle.kd_lease.specs.Client.{identity_under}
 use Rattle.kd_lease.specs.Decided.{IsAnswerTo, outcome_in}
 use Rattle.kd_lease.specs.Kept.{kept_in}
 use Rattle.kd_lease.specs.Ranks.{AreRanks}
@@ -46,15 +46,15 @@ kept_for (Some client) config rows m now = kept_in config rows m now client
 -- rules
 pub record Explains (config : Configuration) (rows : List Row) (m : Seen) (now : ℕ)
     (e : Explanation) : Type 0 where
-  pub client : e.client ≡ client_identity m
+  pub client : e.client ≡ identity_under config m
   pub tested : AreTested m config.classes (base_names (value_of 60 m.options)) e.outcomes.items
       e.names
   pub held : HeldSet m config.classes e.names
-  pub kept : option_copied e.kept ≡ kept_for (client_identity m) config rows m now
+  pub kept : option_copied e.kept ≡ kept_for (identity_under config m) config rows m now
   pub subnet : option_copied e.subnet
       ≡ option_or (option_copied e.kept) (subnet_serving config e.names m)
   pub reservation : IsReservedIn m (option_copied e.subnet) (option_copied e.reservation)
-  pub ranks : AreFoundFor (client_identity m) (asked_for config rows e.names m now)
+  pub ranks : AreFoundFor (identity_under config m) (asked_for config rows e.names m now)
       (option_copied e.subnet) e.ranks
   pub decides : Decides config rows e.names m now e.decision.row (outcome_in e.decision.answer)
   pub answer : IsAnswerTo m e.decision.answer

@@ -150,7 +150,10 @@ fn put_check(
         Check::Choice => Ok(()),
         Check::Subnet => put_subnet_found(out, question.subnet),
         Check::Prefix => put_prefix_found(out, holds(matter, check)),
-        Check::Client => put_client_found(out, holds(matter, check)),
+        Check::Client => {
+            let is_authoritative = question.config.extensions().is_authoritative;
+            put_client_found(out, is_authoritative, holds(matter, check))
+        }
         Check::Owner => {
             put_row_found(alloc, out, matter)?;
             put_owner(out, holds(matter, check))

@@ -6,7 +6,7 @@ ghost use Rattle.kd_explain.specs.Explaining.{AreFoundFor, AreFoundIn, Explains,
 use crate::classes::{Trace, trace_classes};
 use kd_config::{Config, Reservation, Subnet};
 use kd_lease::{
-    Decision, Ground, Question, Ranks, decide, identity, ranks_of, reservation_of, subnet_kept,
+    Decision, Ground, Question, Ranks, decide, identity_for, ranks_of, reservation_of, subnet_kept,
     subnet_or,
 };
 use kd_machine::{Held, Outcome};
@@ -18,7 +18,7 @@ use std::alloc::{AllocError, Global};
 /// What a message is, and what the rules do with it.
 #[derive(Drop)]
 pub struct Explanation<'a> {
-    /// The identity of its client, if it has one (RFC 2131 section 4.2).
+    /// The identity of its client, if it has one, in the configuration (RFC 2131 section 4.2).
     pub client: Option<Bytes>,
     /// For each class of the configuration, in order, the result of its test; `None` if it has no
     /// test.
@@ -54,7 +54,7 @@ pub fn explain<'a>(
     ensures few { IfOk result (λ e. length e.names ≤ 258) }
 {
     let Trace { outcomes, names } = trace_classes(alloc, config.classes(), message)?;
-    let client = identity(alloc, message)?;
+    let client = identity_for(alloc, config, message)?;
     let kept = subnet_kept_for(Ground::of(config, rows), message, &client, moment);
     let subnet = subnet_or(kept, config, &names, message);
     let reservation = reservation_in(message, subnet);

@@ -183,10 +183,17 @@ pub(crate) fn put_prefix_found(out: &mut String, has_it: bool) -> Result<(), All
 }
 
 // Prints whether the client has a row at an address of the subnet, or of its shared network.
-pub(crate) fn put_client_found(out: &mut String, is_known: bool) -> Result<(), AllocError>
-    ensures { OnOk result (string_bytes out.new ≡ string_bytes out.old ++ known_line is_known) }
+pub(crate) fn put_client_found(
+    out: &mut String,
+    is_authoritative: bool,
+    is_known: bool,
+) -> Result<(), AllocError>
+    ensures { OnOk result (string_bytes out.new ≡ string_bytes out.old
+        ++ known_line is_authoritative is_known) }
 {
-    if is_known {
+    if is_authoritative {
+        out.push_str("check client: not asked, the server is authoritative\n")
+    } else if is_known {
         out.push_str("check client: known in the subnet\n")
     } else {
         out.push_str("check client: not known in the subnet\n")

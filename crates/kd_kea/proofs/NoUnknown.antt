@@ -23,11 +23,12 @@ use Rattle.kd_kea.specs.Definitions.{are_apart, kea_definition, kea_definitions,
 use Rattle.kd_kea.specs.Kea.{kea_settings}
 use Rattle.kd_kea.specs.HostName.{has_bare_names, host_name, host_options, may_be_named, server_has_bare_names}
 use Rattle.kd_kea.specs.Keys.{keys_are_read}
-use Rattle.kd_kea.specs.Notes.{KeyNote, ObjectNotes, above_by, all_subnet_notes, around_members, around_of, beside_note, calculated_notes, inside_notes, kea_inside, network_below, network_lists, network_notes, network_own, network_values, outside_in, prefix_given, repeated_notes, repeated_shares, class_notes, data_notes, definition_note, definition_notes, each_described, flag_note, have_refused, host_notes, is_not_failed, is_served_if_given, item_notes, items_of, kea_below, kea_beside, kea_notes, kea_value, usable_definitions, list_notes, listed_notes, lists_by, name_notes, note_on_name, note_unless, notes_at, notes_of_each, number_note, object_notes, option_notes, or_wrong, own_notes, pool_notes, relay_notes, right_definitions, root_notes, server_lists, server_notes, server_times, server_values, subnet_lists, subnet_notes, subnet_own, subnet_values, text_note, all_times, value_notes, with_first, required_notes}
+use Rattle.kd_kea.specs.Notes.{KeyNote, ObjectNotes, above_by, all_subnet_notes, around_members, around_of, beside_note, inherited_notes, inside_notes, kea_inside, network_below, network_lists, network_notes, network_own, network_values, outside_in, prefix_given, class_notes, data_notes, definition_note, definition_notes, each_described, flag_note, have_refused, host_notes, is_not_failed, is_served_if_given, item_notes, items_of, kea_below, kea_beside, kea_notes, kea_value, usable_definitions, list_notes, listed_notes, lists_by, name_notes, note_on_name, note_unless, notes_at, notes_of_each, number_note, object_notes, option_notes, or_wrong, own_notes, pool_notes, relay_notes, right_definitions, root_notes, server_lists, server_flags, server_notes, server_times, server_values, subnet_lists, subnet_notes, subnet_own, subnet_values, text_note, all_times, value_notes, with_first, required_notes}
 use Rattle.kd_kea.specs.Network.{above_members, as_member, has_network_form, is_in_one_of, is_interface_of, kea_common, kea_member, kea_network, kea_subnets, may_be_of, one_class}
 use Rattle.kd_kea.specs.Options.{is_served_space, kea_entry, kea_options, server_address}
 use Rattle.kd_kea.specs.Parts.{parts_of_all}
 use Rattle.kd_kea.specs.Pool.{kea_pool, kea_range, may_require}
+use Rattle.kd_kea.specs.Policy.{kea_policy, repeats_policy}
 use Rattle.kd_kea.specs.Reservation.{kea_reservation}
 use Rattle.kd_kea.specs.Settings.{has_server_form, kea_dhcp4, kea_root, kea_settings_with}
 use Rattle.kd_kea.specs.Relay.{kea_relay, relays_of}
@@ -39,9 +40,10 @@ use Rattle.kd_kea.specs.declared.notes.NoteKind.TheVariants.{Unknown, Wrong}
 use Rattle.kd_kea.specs.declared.notes.around.Around.{Around}
 use Rattle.kd_kea.specs.declared.objects.definition.Definition.{Definition}
 use Rattle.kd_kea.specs.declared.objects.network.Common.{Common}
+use Rattle.kd_kea.specs.declared.objects.policy.Policy.{Policy}
 use Rattle.kd_kea.specs.declared.objects.subnet.Above.{Above}
 use Rattle.kd_wire.specs.Steps.{◌>>=◌}
-use Rattle.kd_kea.proofs.NoneWrong.{none_in_both, own_pass, unless_none, right, flag_right, wrong_none, object_none, is_object, form_of, server_values_pass, bind_is, server_times_pass, Fits, subnet_values_pass, address_known, times_known, around_fits, above_known, below_known, must_hold, repeated, repeated_pass, calculated_pass, shares_known}
+use Rattle.kd_kea.proofs.NoneWrong.{none_in_both, own_pass, unless_none, right, flag_right, wrong_none, object_none, is_object, form_of, server_values_pass, bind_is, server_times_pass, Fits, subnet_values_pass, address_known, times_known, around_fits, above_known, below_known, inherited_pass, must_hold}
 
 -- ---- definitions, each by itself
 
@@ -229,6 +231,7 @@ relay_pass path (Some d) relays e =
 record HasSubnetForm (above : Above) (d : Data) : Type 0 where
   keys : keys_are_read subnet_keys d ≡ true
   times : repeats_times above.calculated above.shares above.times d ≡ Some tt
+  policy : repeats_policy above.policy d ≡ true
   id : is_some (number_if_given 1 4294967294 1 (get (codes "id") d)) ≡ true
 
 subnet_form : (above : Above) (d : Data) → has_subnet_form above d ≡ Some tt → HasSubnetForm above d
@@ -236,8 +239,9 @@ unfolding has_subnet_form
 subnet_form above d e =
     let keys = passed (keys_are_read subnet_keys d) _ tt e in
     let times = came_from (repeats_times above.calculated above.shares above.times d) _ tt keys.1 in
-    let id = came_from (number_if_given 1 4294967294 1 (get (codes "id") d)) _ tt times.gives in
-    record { keys = keys.0; times = times.is; id = ap is_some id.is }
+    let policy = passed (repeats_policy above.policy d) _ tt times.gives in
+    let id = came_from (number_if_given 1 4294967294 1 (get (codes "id") d)) _ tt policy.1 in
+    record { keys = keys.0; times = times.is; policy = policy.0; id = ap is_some id.is }
 
 -- the lists and the relay of a subnet
 record ListsPass (known : List Definition) (bare : Bool) (path : List ℕ) (d : Data) : Type 0 where
@@ -319,7 +323,7 @@ subnet_pass above around fits known d subnet path e =
     (none_in_both (keyed ++ values ++ own ++ beside) (options ++ pools ++ hosts ++ relay)
     (none_in_both (keyed ++ values ++ own) beside
     (none_in_both (keyed ++ values) own
-    (none_in_both keyed values (own_pass subnet_keys path d form.keys) (subnet_values_pass above around fits path d prefix.first form.times prefix.is link.0))
+    (none_in_both keyed values (own_pass subnet_keys path d form.keys) (subnet_values_pass above around fits path d prefix.first form.times form.policy prefix.is link.0))
     (subnet_own_pass above path d prefix.first class.first outside.first form prefix.is class.is outside.is))
     (beside_pass around.outside above.outside around.bare known outside.first prefix.first (unless_empty class.first) path d subnet fits.outside outside.is listed))
     (none_in_both (options ++ pools ++ hosts) relay
@@ -334,6 +338,7 @@ subnet_pass above around fits known d subnet path e =
 record HasNetworkForm (above : Above) (d : Data) : Type 0 where
   keys : keys_are_read network_keys d ≡ true
   times : repeats_times above.calculated above.shares above.times d ≡ Some tt
+  policy : repeats_policy above.policy d ≡ true
   name : is_some (get (codes "name") d >>= as_str) ≡ true
 
 network_form : (above : Above) (d : Data) → has_network_form above d ≡ Some tt → HasNetworkForm above d
@@ -341,7 +346,8 @@ unfolding has_network_form
 network_form above d e =
     let keys = passed (keys_are_read network_keys d) _ tt e in
     let times = came_from (repeats_times above.calculated above.shares above.times d) _ tt keys.1 in
-    record { keys = keys.0; times = times.is; name = must_hold (is_some (get (codes "name") d >>= as_str)) times.gives }
+    let policy = passed (repeats_policy above.policy d) _ tt times.gives in
+    record { keys = keys.0; times = times.is; policy = policy.0; name = must_hold (is_some (get (codes "name") d >>= as_str)) policy.1 }
 
 -- the prefix of a member is the one that its value gives
 member_prefix : (above : Above) (known : List Definition) (common : Common) (d : Data) (member : Subnet) → kea_member above known common d ≡ Some member → prefix_given d ≡ Some member.prefix
@@ -399,20 +405,11 @@ inside_pass given server inner known common path d members e f g =
     subst (λ (o : Option ℕ). have_refused (inside_notes o path d) ≡ false) (sym e)
     (inside_pass_by server path d prefixes (listed_prefixes inner known common (get (codes "subnet4") d) members f) inside)
 
-network_values_pass : (above : Above) (around : Around) → Fits above around → (path : List ℕ) (d : Data) → repeats_times above.calculated above.shares above.times d ≡ Some tt → have_refused (inside_notes around.address path d) ≡ false
+network_values_pass : (above : Above) (around : Around) → Fits above around → (path : List ℕ) (d : Data) → repeats_times above.calculated above.shares above.times d ≡ Some tt → repeats_policy above.policy d ≡ true → have_refused (inside_notes around.address path d) ≡ false
     → have_refused (network_values around path d) ≡ false
 unfolding network_values
-network_values_pass above around fits path d e inside =
-    let times = repeated above.calculated above.shares above.times d e in
-    let of_times = repeated_notes around path d in
-    let of_calculated = calculated_notes around.calculated path d in
-    let of_shares = repeated_shares around.calculated around.shares path d in
-    none_in_both (of_times ++ of_calculated ++ of_shares) (inside_notes around.address path d)
-    (none_in_both (of_times ++ of_calculated) of_shares
-    (none_in_both of_times of_calculated (repeated_pass above around fits path d times)
-    (calculated_pass around.calculated above.calculated path d fits.calculated times.rounded))
-    (shares_known around.calculated above.calculated around.shares above.shares path d fits.calculated fits.shares times.shares))
-    inside
+network_values_pass above around fits path d e same inside =
+    none_in_both (inherited_notes around path d) (inside_notes around.address path d) (inherited_pass above around fits path d e same) inside
 
 network_own_pass : (path : List ℕ) (d : Data) (other outside : Bool) → is_some (get (codes "name") d >>= as_str) ≡ true → is_some (text_if_given (get (codes "client-class") d)) ≡ true → flag_or other (get (codes "reservations-out-of-pool") d) ≡ Some outside
     → have_refused (network_own path d) ≡ false
@@ -436,6 +433,7 @@ members_fit above around fits d outside e =
       times = fits.times;
       outside = bind_is around.outside above.outside (λ (b : Bool). flag_or b (get (codes "reservations-out-of-pool") d)) outside fits.outside e;
       bare = ap (λ (b : Bool). has_bare_names b d) fits.bare;
+      policy = fits.policy;
       calculated = fits.calculated;
       shares = fits.shares;
       lifetime = fits.lifetime;
@@ -495,7 +493,7 @@ network_pass above around fits known d members path e =
     (network_known (above_by around) above known d members (above_known above around fits) e) (is_object network_keys d form.keys)
     (none_in_both (keyed ++ values ++ own) (options ++ listed ++ relay)
     (none_in_both (keyed ++ values) own
-    (none_in_both keyed values (own_pass network_keys path d form.keys) (network_values_pass above around fits path d form.times inside))
+    (none_in_both keyed values (own_pass network_keys path d form.keys) (network_values_pass above around fits path d form.times form.policy inside))
     (network_own_pass path d above.outside outside.first form.name shared.class outside.is))
     (none_in_both (options ++ listed) relay
     (none_in_both options listed shared.options
@@ -531,6 +529,21 @@ ServerLists around known path d =
     ++ listed_notes 256 (class_notes known) (codes "client-classes") path d
     ++ all_subnet_notes around known path d
 
+-- the truth values of the whole server
+flags_pass : (path : List ℕ) (d : Data) (outside : Bool) (policy : Policy) → flag_given (get (codes "reservations-out-of-pool") d) ≡ Some outside → kea_policy d ≡ Some policy → have_refused (server_flags path d) ≡ false
+unfolding server_flags kea_policy
+flags_pass path d outside policy e f =
+    let authoritative = came_from (flag_given (get (codes "authoritative") d)) _ policy f in
+    let matches = came_from (flag_or true (get (codes "match-client-id") d)) _ policy authoritative.gives in
+    let of_outside = flag_note (codes "reservations-out-of-pool") path d in
+    let of_authoritative = flag_note (codes "authoritative") path d in
+    let of_matches = flag_note (codes "match-client-id") path d in
+    none_in_both (of_outside ++ of_authoritative) of_matches
+    (none_in_both of_outside of_authoritative
+    (right (flag_given (get (codes "reservations-out-of-pool") d)) outside path (codes "reservations-out-of-pool") e)
+    (right (flag_given (get (codes "authoritative") d)) authoritative.first path (codes "authoritative") authoritative.is))
+    (unless_none (is_some (flag_given (get (codes "match-client-id") d))) Wrong path (codes "match-client-id") (flag_right true (get (codes "match-client-id") d) matches.first matches.is))
+
 server_pass : (server : Option ℕ) → NoneRefused (kea_dhcp4 server) (server_notes server)
 unfolding kea_dhcp4 server_notes server_lists lists_by all_times
 server_pass server d settings path e =
@@ -539,21 +552,22 @@ server_pass server d settings path e =
     let shares = passed (has_usual_shares calculated.first d) _ settings calculated.gives in
     let times = came_from (kea_times calculated.first d) _ settings shares.1 in
     let outside = came_from (flag_given (get (codes "reservations-out-of-pool") d)) _ settings times.gives in
-    let known = came_from (kea_known (get (codes "option-def") d)) _ settings outside.gives in
+    let policy = came_from (kea_policy d) _ settings outside.gives in
+    let known = came_from (kea_known (get (codes "option-def") d)) _ settings policy.gives in
     let options = came_from (kea_options true known.first (get (codes "option-data") d)) _ settings known.gives in
     let address = came_from (server_address options.first server) _ settings options.gives in
-    let above : Above = record { server = address.first; times = times.first; calculated = calculated.first; shares = shares_given d; outside = outside.first; bare = server_has_bare_names d } in
+    let above : Above = record { server = address.first; times = times.first; calculated = calculated.first; shares = shares_given d; outside = outside.first; bare = server_has_bare_names d; policy = policy.first } in
     let around = around_of server d in
     let fits = around_fits server d above
     (address_known server d known.first options.first address.first known.is options.is address.is)
     (bind_is (flag_given (get (codes "calculate-tee-times") d)) calculated.first (λ (b : Bool). kea_times b d) times.first calculated.is times.is)
-    (times_known d calculated.first times.first calculated.is times.is) calculated.is outside.is refl refl in
+    (times_known d calculated.first times.first calculated.is times.is) calculated.is outside.is refl refl policy.is in
     let lists = lists_pass known.first options.first above around fits path d settings address.gives in
     let form = form_of d given.is in
     let keyed = own_notes server_keys path d in
     let values = server_values path d in
     let own_times = server_times path d in
-    let flag = flag_note (codes "reservations-out-of-pool") path d in
+    let flags = server_flags path d in
     let definitions = definition_notes false path d in
     let of_options = option_notes true known.first path d in
     let classes = listed_notes 256 (class_notes known.first) (codes "client-classes") path d in
@@ -564,13 +578,13 @@ server_pass server d settings path e =
     (none_in_both definitions of_options (known_pass d known.first path known.is) (options_pass true known.first d options.first path options.is))
     lists.0)
     lists.1 in
-    object_none (kea_dhcp4 server d) settings path d (keyed ++ values ++ own_times ++ flag ++ ServerLists around (usable_definitions d) path d) e (is_object server_keys d form.keys)
-    (none_in_both (keyed ++ values ++ own_times ++ flag) (ServerLists around (usable_definitions d) path d)
-    (none_in_both (keyed ++ values ++ own_times) flag
+    object_none (kea_dhcp4 server d) settings path d (keyed ++ values ++ own_times ++ flags ++ ServerLists around (usable_definitions d) path d) e (is_object server_keys d form.keys)
+    (none_in_both (keyed ++ values ++ own_times ++ flags) (ServerLists around (usable_definitions d) path d)
+    (none_in_both (keyed ++ values ++ own_times) flags
     (none_in_both (keyed ++ values) own_times
     (none_in_both keyed values (own_pass server_keys path d form.keys) (server_values_pass path d calculated.first form calculated.is shares.0))
     (server_times_pass path d calculated.first times.first calculated.is times.is))
-    (right (flag_given (get (codes "reservations-out-of-pool") d)) outside.first path (codes "reservations-out-of-pool") outside.is))
+    (flags_pass path d outside.first policy.first outside.is policy.is))
     (subst (λ (its : List Definition). have_refused (ServerLists around its path d) ≡ false) (sym (known_same d known.first known.is)) all_lists))
 
 value_pass : {A : Type 0} (means : Data → Option A) (notes : ObjectNotes) → NoneRefused means notes → (path : List ℕ) (value : Option Data) (a : A) → (value >>= means) ≡ Some a → have_refused (value_notes notes path value) ≡ false

@@ -20,8 +20,9 @@ use Rattle.kd_kea.specs.Definitions.{kea_known}
 use Rattle.kd_kea.specs.HostName.{server_has_bare_names}
 use Rattle.kd_kea.specs.Hooks.{hooks_are_quiet}
 use Rattle.kd_kea.specs.Keys.{KeyUse, Plain, each_key, flag, fraction, has_only_keys, is_plain, key_use, keys_are_read, may_have, no_list, served, skipped, usual, whole}
-use Rattle.kd_kea.specs.Notes.{KeyNote, above_by, around_of, calculated_notes, flag_note, have_refused, hook_kind, hook_notes, interface_notes, kea_address, kea_below, key_notes, keys_in, kind_of_note, lease_notes, lifetime_in, limit_notes, member_keys, note_below, note_unless, notes_at, number_note, object_notes, off_note, off_notes, or_wrong, own_notes, rebind_in, renew_in, repeated_notes, repeated_shares, server_times, server_values, service_notes, share_notes, subnet_values, time_note, all_times, unused_share, unused_shares, usual_note, value_notes}
+use Rattle.kd_kea.specs.Notes.{KeyNote, above_by, around_of, calculated_notes, flag_note, have_refused, hook_kind, hook_notes, inherited_notes, interface_notes, kea_address, kea_below, key_notes, keys_in, kind_of_note, lease_notes, lifetime_in, limit_notes, member_keys, note_below, note_unless, notes_at, number_note, object_notes, off_note, off_notes, or_wrong, own_notes, policy_notes, rebind_in, renew_in, repeated_notes, repeated_shares, server_times, server_values, service_notes, share_notes, subnet_values, time_note, all_times, unused_share, unused_shares, usual_note, value_notes}
 use Rattle.kd_kea.specs.Options.{kea_options, server_address}
+use Rattle.kd_kea.specs.Policy.{kea_policy, repeats_policy}
 use Rattle.kd_kea.specs.Settings.{finds_reservations, has_server_form, turns_nothing_on}
 use Rattle.kd_kea.specs.Subnet.{is_at_server, kea_subnet}
 use Rattle.kd_kea.specs.Tables.{server_keys}
@@ -31,6 +32,7 @@ use Rattle.kd_kea.specs.declared.notes.NoteKind.{NoteKind}
 use Rattle.kd_kea.specs.declared.notes.NoteKind.TheVariants.{Skipped, Unknown, Wrong}
 use Rattle.kd_kea.specs.declared.notes.around.Around.{Around}
 use Rattle.kd_kea.specs.declared.objects.definition.Definition.{Definition}
+use Rattle.kd_kea.specs.declared.objects.policy.Policy.{Policy}
 use Rattle.kd_kea.specs.declared.objects.subnet.Above.{Above}
 use Rattle.kd_kea.specs.declared.objects.times.Shares.{Shares}
 use Rattle.kd_kea.specs.declared.objects.times.TheConstants.{HALF, SEVEN_EIGHTHS}
@@ -274,6 +276,7 @@ pub record Fits (above : Above) (around : Around) : Type 0 where
   pub times : around.times ≡ Some above.times
   pub outside : around.outside ≡ Some above.outside
   pub bare : around.bare ≡ above.bare
+  pub policy : around.policy ≡ Some above.policy
   pub calculated : around.calculated ≡ Some above.calculated
   pub shares : around.shares ≡ above.shares
   pub lifetime : around.lifetime ≡ Some above.times.lifetime
@@ -325,20 +328,41 @@ repeated_pass above around fits path d times =
     (time_pass around.renew above.times.renew (codes "renew-timer") path d fits.renew times.renew))
     (time_pass around.rebind above.times.rebind (codes "rebind-timer") path d fits.rebind times.rebind)
 
-pub subnet_values_pass : (above : Above) (around : Around) → Fits above around → (path : List ℕ) (d : Data) (prefix : Prefix) → repeats_times above.calculated above.shares above.times d ≡ Some tt → (get (codes "subnet") d >>= subnet_prefix) ≡ Some prefix → is_at_server above.server prefix (get (codes "interface") d) ≡ true
-    → have_refused (subnet_values around path d) ≡ false
-unfolding subnet_values
-subnet_values_pass above around fits path d prefix e spelled here =
+-- the policy of a subnet or a network is that of the whole server
+policy_pass_by : (policy : Policy) (path : List ℕ) (d : Data) → repeats_policy policy d ≡ true → have_refused (policy_notes (Some policy) path d) ≡ false
+policy_pass_by policy path d e =
+    let both = both_passed (is_plain_if_given (flag policy.is_authoritative) (get (codes "authoritative") d)) (is_plain_if_given (flag policy.matches_client_ids) (get (codes "match-client-id") d)) e in
+    none_in_both (usual_note (flag policy.is_authoritative) path (codes "authoritative") d) (usual_note (flag policy.matches_client_ids) path (codes "match-client-id") d)
+    (usual_pass (flag policy.is_authoritative) path (codes "authoritative") d both.0)
+    (usual_pass (flag policy.matches_client_ids) path (codes "match-client-id") d both.1)
+
+policy_pass : (given : Option Policy) (policy : Policy) (path : List ℕ) (d : Data) → given ≡ Some policy → repeats_policy policy d ≡ true → have_refused (policy_notes given path d) ≡ false
+policy_pass given policy path d e f =
+    subst (λ (o : Option Policy). have_refused (policy_notes o path d) ≡ false) (sym e) (policy_pass_by policy path d f)
+
+-- what a subnet or a network repeats of the whole server
+pub inherited_pass : (above : Above) (around : Around) → Fits above around → (path : List ℕ) (d : Data) → repeats_times above.calculated above.shares above.times d ≡ Some tt → repeats_policy above.policy d ≡ true
+    → have_refused (inherited_notes around path d) ≡ false
+unfolding inherited_notes
+inherited_pass above around fits path d e same =
     let times = repeated above.calculated above.shares above.times d e in
     let of_times = repeated_notes around path d in
     let of_calculated = calculated_notes around.calculated path d in
     let of_shares = repeated_shares around.calculated around.shares path d in
-    let of_interface = interface_notes around.address (get (codes "subnet") d >>= subnet_prefix) path d in
-    none_in_both (of_times ++ of_calculated ++ of_shares) of_interface
+    let of_policy = policy_notes around.policy path d in
+    none_in_both (of_times ++ of_calculated ++ of_shares) of_policy
     (none_in_both (of_times ++ of_calculated) of_shares
     (none_in_both of_times of_calculated (repeated_pass above around fits path d times)
     (calculated_pass around.calculated above.calculated path d fits.calculated times.rounded))
     (shares_known around.calculated above.calculated around.shares above.shares path d fits.calculated fits.shares times.shares))
+    (policy_pass around.policy above.policy path d fits.policy same)
+
+pub subnet_values_pass : (above : Above) (around : Around) → Fits above around → (path : List ℕ) (d : Data) (prefix : Prefix) → repeats_times above.calculated above.shares above.times d ≡ Some tt → repeats_policy above.policy d ≡ true → (get (codes "subnet") d >>= subnet_prefix) ≡ Some prefix → is_at_server above.server prefix (get (codes "interface") d) ≡ true
+    → have_refused (subnet_values around path d) ≡ false
+unfolding subnet_values
+subnet_values_pass above around fits path d prefix e same spelled here =
+    let of_interface = interface_notes around.address (get (codes "subnet") d >>= subnet_prefix) path d in
+    none_in_both (inherited_notes around path d) of_interface (inherited_pass above around fits path d e same)
     (interface_pass around.address above.server (get (codes "subnet") d >>= subnet_prefix) prefix path d fits.address spelled here)
 
 pub address_known : (server : Option ℕ) (d : Data) (known : List Definition) (options : List OptionData) (address : ℕ) → kea_known (get (codes "option-def") d) ≡ Some known → kea_options true known (get (codes "option-data") d) ≡ Some options → server_address options server ≡ Some address
@@ -371,10 +395,10 @@ times_known d calculated times f e =
       rebind = bind_is given calculated _ rebind.first f (bind_is (lifetime_in d) lifetime.first _ rebind.first lifetime.is rebind.is);
     })
 
-pub around_fits : (server : Option ℕ) (d : Data) (above : Above) → kea_address server d ≡ Some above.server → all_times d ≡ Some above.times → HasTimes d above.times → flag_given (get (codes "calculate-tee-times") d) ≡ Some above.calculated → flag_given (get (codes "reservations-out-of-pool") d) ≡ Some above.outside → shares_given d ≡ above.shares → server_has_bare_names d ≡ above.bare
+pub around_fits : (server : Option ℕ) (d : Data) (above : Above) → kea_address server d ≡ Some above.server → all_times d ≡ Some above.times → HasTimes d above.times → flag_given (get (codes "calculate-tee-times") d) ≡ Some above.calculated → flag_given (get (codes "reservations-out-of-pool") d) ≡ Some above.outside → shares_given d ≡ above.shares → server_has_bare_names d ≡ above.bare → kea_policy d ≡ Some above.policy
     → Fits above (around_of server d)
 unfolding around_of
-around_fits server d above e given times f g s b = record { address = e; times = given; outside = g; bare = b; calculated = f; shares = s; lifetime = times.lifetime; renew = times.renew; rebind = times.rebind }
+around_fits server d above e given times f g s b p = record { address = e; times = given; outside = g; bare = b; policy = p; calculated = f; shares = s; lifetime = times.lifetime; renew = times.renew; rebind = times.rebind }
 
 pub above_known : (above : Above) (around : Around) → Fits above around → above_by around ≡ Some above
 unfolding above_by
@@ -383,8 +407,9 @@ above_known above around fits =
     (bind_is around.times above.times _ above fits.times
     (bind_is around.calculated above.calculated _ above fits.calculated
     (bind_is around.outside above.outside _ above fits.outside
-    (ap (λ (s : Shares). Some (record { server = above.server; times = above.times; calculated = above.calculated; shares = s; outside = above.outside; bare = around.bare })) fits.shares
-    ∙ ap (λ (b : Bool). Some (record { server = above.server; times = above.times; calculated = above.calculated; shares = above.shares; outside = above.outside; bare = b })) fits.bare))))
+    (bind_is around.policy above.policy _ above fits.policy
+    (ap (λ (s : Shares). Some (record { server = above.server; times = above.times; calculated = above.calculated; shares = s; outside = above.outside; bare = around.bare; policy = above.policy })) fits.shares
+    ∙ ap (λ (b : Bool). Some (record { server = above.server; times = above.times; calculated = above.calculated; shares = above.shares; outside = above.outside; bare = b; policy = above.policy })) fits.bare)))))
 
 pub below_known : (given : Option Above) (above : Above) (known : List Definition) (d : Data) (subnet : Subnet) → given ≡ Some above → kea_subnet above known d ≡ Some subnet → kea_below given known d ≡ Some tt
 below_known given above known d subnet e f =

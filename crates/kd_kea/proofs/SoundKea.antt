@@ -23,6 +23,7 @@ use Rattle.kd_kea.specs.Keys.{keys_are_read}
 use Rattle.kd_kea.specs.Network.{kea_subnets}
 use Rattle.kd_kea.specs.Options.{kea_options, server_address}
 use Rattle.kd_kea.specs.Plain.{plain}
+use Rattle.kd_kea.specs.Policy.{kea_policy}
 use Rattle.kd_kea.specs.Settings.{has_server_form, kea_dhcp4, kea_root, kea_settings_with}
 use Rattle.kd_kea.specs.Tables.{class_keys, root_keys}
 use Rattle.kd_kea.specs.Times.{has_usual_shares, kea_times, shares_given}
@@ -60,10 +61,11 @@ dhcp4_sound server d s e =
     let shares = passed (has_usual_shares calculated.first d) _ s calculated.gives in
     let times = came_from (kea_times calculated.first d) _ s shares.1 in
     let outside = came_from (flag_given (get (codes "reservations-out-of-pool") d)) _ s times.gives in
-    let known = came_from (kea_known (get (codes "option-def") d)) _ s outside.gives in
+    let policy = came_from (kea_policy d) _ s outside.gives in
+    let known = came_from (kea_known (get (codes "option-def") d)) _ s policy.gives in
     let options = came_from (kea_options true known.first (get (codes "option-data") d)) _ s known.gives in
     let address = came_from (server_address options.first server) _ s options.gives in
-    let above : Above = record { server = address.first; times = times.first; calculated = calculated.first; shares = shares_given d; outside = outside.first; bare = server_has_bare_names d } in
+    let above : Above = record { server = address.first; times = times.first; calculated = calculated.first; shares = shares_given d; outside = outside.first; bare = server_has_bare_names d; policy = policy.first } in
     let classes = came_from (list_of 256 (kea_class known.first) (get (codes "client-classes") d)) _ s address.gives in
     let subnets = came_from (kea_subnets above known.first d) _ s classes.gives in
     let sound = subnets_sound above known.first d subnets.first subnets.is in

@@ -15,6 +15,7 @@ use Rattle.kd_json.specs.Values.{text_if_given}
 use Rattle.kd_kea.specs.HostName.{has_bare_names}
 use Rattle.kd_kea.specs.Keys.{is_plain, keys_are_read, word}
 use Rattle.kd_kea.specs.Options.{kea_options}
+use Rattle.kd_kea.specs.Policy.{repeats_policy}
 use Rattle.kd_kea.specs.Relay.{relays_of}
 use Rattle.kd_kea.specs.Subnet.{kea_subnet}
 use Rattle.kd_kea.specs.Tables.{network_keys}
@@ -78,6 +79,7 @@ unfoldable pub has_network_form : Above → Data → Option (Unit {0})
 has_network_form above d = do
   _ ← must (keys_are_read network_keys d)
   _ ← repeats_times above.calculated above.shares above.times d
+  _ ← must (repeats_policy above.policy d)
   must (is_some (get (codes "name") d >>= as_str))
 
 -- what the members of a network have in common; an empty class is none
@@ -98,6 +100,7 @@ above_members above outside d =
       shares = above.shares;
       outside = outside;
       bare = has_bare_names above.bare d;
+      policy = above.policy;
     }
 
 -- the members of the network that a value describes, below what holds for the whole server

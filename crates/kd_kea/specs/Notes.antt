@@ -26,6 +26,7 @@ use Rattle.kd_kea.specs.Network.{is_interface_of, kea_network}
 use Rattle.kd_kea.specs.Options.{is_served_space, kea_entry, kea_options, server_address}
 use Rattle.kd_kea.specs.Plain.{plain}
 use Rattle.kd_kea.specs.Parts.{parts_of_all}
+use Rattle.kd_kea.specs.Policy.{kea_policy}
 use Rattle.kd_kea.specs.Pool.{kea_pool, kea_range, may_require}
 use Rattle.kd_kea.specs.Relay.{kea_relay}
 use Rattle.kd_kea.specs.Reservation.{kea_reservation}
@@ -40,6 +41,7 @@ use Rattle.kd_kea.specs.declared.notes.NoteKind.TheVariants.{Skipped, Unknown, W
 use Rattle.kd_kea.specs.declared.notes.around.Around.{Around}
 use Rattle.kd_kea.specs.declared.objects.times.Shares.{Shares}
 use Rattle.kd_kea.specs.declared.objects.definition.Definition.{Definition}
+use Rattle.kd_kea.specs.declared.objects.policy.Policy.{Policy}
 use Rattle.kd_kea.specs.declared.objects.subnet.Above.{Above}
 use Rattle.kd_kea.specs.declared.objects.times.TheConstants.{HALF, SEVEN_EIGHTHS}
 use Rattle.kd_names.specs.Values.{sign_text}
@@ -259,7 +261,7 @@ all_times d = do
 -- what holds for the whole server by the value of `Dhcp4`, each part if it is right by itself
 unfoldable pub around_of : Option ℕ → Data → Around
 around_of server d =
-    record { address = kea_address server d; times = all_times d; calculated = flag_given (get (codes "calculate-tee-times") d); shares = shares_given d; outside = flag_given (get (codes "reservations-out-of-pool") d); bare = server_has_bare_names d; lifetime = lifetime_in d; renew = renew_in d; rebind = rebind_in d }
+    record { address = kea_address server d; times = all_times d; calculated = flag_given (get (codes "calculate-tee-times") d); shares = shares_given d; outside = flag_given (get (codes "reservations-out-of-pool") d); bare = server_has_bare_names d; policy = kea_policy d; lifetime = lifetime_in d; renew = renew_in d; rebind = rebind_in d }
 
 -- what holds for the whole server, if all of it is right
 unfoldable pub above_by : Around → Option Above
@@ -268,13 +270,22 @@ above_by around = do
   times ← around.times
   calculated ← around.calculated
   outside ← around.outside
-  Some (record { server = server; times = times; calculated = calculated; shares = around.shares; outside = outside; bare = around.bare })
+  policy ← around.policy
+  Some (record { server = server; times = times; calculated = calculated; shares = around.shares; outside = outside; bare = around.bare; policy = policy })
 
 -- the note on whether the times of a subnet are calculated, which is as for the whole server
 abbrev pub calculated_notes : Option Bool → ObjectNotes
 calculated_notes None path d = []
 calculated_notes (Some calculated) path d =
     usual_note (flag calculated) path (codes "calculate-tee-times") d
+
+-- the notes on the policy of a subnet or a network, which may only be that of the whole server, if
+-- that is known
+abbrev pub policy_notes : Option Policy → ObjectNotes
+policy_notes None path d = []
+policy_notes (Some policy) path d =
+    usual_note (flag policy.is_authoritative) path (codes "authoritative") d
+    ++ usual_note (flag policy.matches_client_ids) path (codes "match-client-id") d
 
 -- the note on the interface of a subnet, which may only be the one with the server's address, if that
 -- and the subnet's prefix are known
@@ -293,12 +304,18 @@ repeated_notes around path d =
     ++ time_note around.renew (codes "renew-timer") path d
     ++ time_note around.rebind (codes "rebind-timer") path d
 
--- the notes on such keys of a subnet
-unfoldable pub subnet_values : Around → ObjectNotes
-subnet_values around path d =
+-- the notes on what a subnet or a network may only repeat of the whole server
+unfoldable pub inherited_notes : Around → ObjectNotes
+inherited_notes around path d =
     repeated_notes around path d
     ++ calculated_notes around.calculated path d
     ++ repeated_shares around.calculated around.shares path d
+    ++ policy_notes around.policy path d
+
+-- the notes on such keys of a subnet
+unfoldable pub subnet_values : Around → ObjectNotes
+subnet_values around path d =
+    inherited_notes around path d
     ++ interface_notes around.address (get (codes "subnet") d >>= subnet_prefix) path d
 
 -- ---- values that are wrong by themselves
@@ -526,9 +543,7 @@ inside_notes (Some server) path d =
 -- whole server
 unfoldable pub network_values : Around → ObjectNotes
 network_values around path d =
-    repeated_notes around path d
-    ++ calculated_notes around.calculated path d
-    ++ repeated_shares around.calculated around.shares path d
+    inherited_notes around path d
     ++ inside_notes around.address path d
 
 -- the notes on the values of a network that are wrong by themselves
@@ -547,7 +562,7 @@ outside_in given d = do
 -- what holds above the members of a network, each part if it is right by itself
 unfoldable pub around_members : Around → Data → Around
 around_members around d =
-    record { address = around.address; times = around.times; calculated = around.calculated; shares = around.shares; outside = outside_in around.outside d; bare = has_bare_names around.bare d; lifetime = around.lifetime; renew = around.renew; rebind = around.rebind }
+    record { address = around.address; times = around.times; calculated = around.calculated; shares = around.shares; outside = outside_in around.outside d; bare = has_bare_names around.bare d; policy = around.policy; lifetime = around.lifetime; renew = around.renew; rebind = around.rebind }
 
 -- the notes on the options, the members and the relay of a network, by what holds for the whole server
 -- and these definitions
@@ -575,6 +590,13 @@ network_notes around known path d =
 
 -- ---- the whole server
 
+-- the notes on the truth values in the value of `Dhcp4` that are none
+unfoldable pub server_flags : ObjectNotes
+server_flags path d =
+    flag_note (codes "reservations-out-of-pool") path d
+    ++ flag_note (codes "authoritative") path d
+    ++ flag_note (codes "match-client-id") path d
+
 -- the notes on the networks and the subnets of the whole server
 unfoldable pub all_subnet_notes : Around → List Definition → ObjectNotes
 all_subnet_notes around known path d =
@@ -601,7 +623,7 @@ server_notes server path d =
     (own_notes server_keys path d
     ++ server_values path d
     ++ server_times path d
-    ++ flag_note (codes "reservations-out-of-pool") path d
+    ++ server_flags path d
     ++ server_lists server path d)
 
 -- the notes of the value of a whole text

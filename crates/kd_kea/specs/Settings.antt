@@ -1,9 +1,9 @@
 -- The object `Dhcp4` and the root of a configuration of Kea's.
-use Rattle.std.specs.Prelude.{ℕ, Bool, true, false, ◌&&◌, List, codes, Option, Some, None, is_some}
+use Rattle.std.specs.Prelude.{ℕ, Bool, true, false, not, ◌&&◌, List, codes, Option, Some, None, is_some}
 use Rattle.serde_json.specs.Data.{Data, array}
 use Rattle.serde_json.specs.Find.{as_object, get}
 use Rattle.kd_classes.specs.declared.option_list.OptionData.{OptionData}
-use Rattle.kd_config.specs.Configuration.{all_extensions}
+use Rattle.kd_config.specs.Configuration.{kea_extensions}
 use Rattle.kd_json.specs.Lists.{list_of}
 use Rattle.kd_json.specs.Steps.{must}
 use Rattle.kd_json.specs.declared.objects.settings.Settings.{Settings}
@@ -14,6 +14,7 @@ use Rattle.kd_kea.specs.Hooks.{hooks_are_quiet}
 use Rattle.kd_kea.specs.Keys.{Plain, flag, keys_are_read, no_list, word}
 use Rattle.kd_kea.specs.Network.{kea_subnets}
 use Rattle.kd_kea.specs.Options.{kea_options, sent_to_all, server_address}
+use Rattle.kd_kea.specs.Policy.{kea_policy}
 use Rattle.kd_kea.specs.Tables.{root_keys, server_keys}
 use Rattle.kd_kea.specs.Times.{has_usual_shares, kea_times, shares_given}
 use Rattle.kd_kea.specs.Values.{flag_given, has_plain, is_plain_if_given}
@@ -50,7 +51,7 @@ unfoldable pub kea_settings_with : List Definition → List OptionData → Above
 kea_settings_with known options above d = do
   classes ← list_of 256 (kea_class known) (get (codes "client-classes") d)
   subnets ← kea_subnets above known d
-  Some (record { server = above.server; times = above.times; extensions = all_extensions; options = sent_to_all options; classes = classes; subnets = subnets })
+  Some (record { server = above.server; times = above.times; extensions = kea_extensions above.policy.is_authoritative (not above.policy.matches_client_ids); options = sent_to_all options; classes = classes; subnets = subnets })
 
 -- the settings that the value of `Dhcp4` describes, for a server with this address if no option
 -- has another
@@ -61,10 +62,11 @@ kea_dhcp4 server d = do
   _ ← must (has_usual_shares calculated d)
   times ← kea_times calculated d
   outside ← flag_given (get (codes "reservations-out-of-pool") d)
+  policy ← kea_policy d
   known ← kea_known (get (codes "option-def") d)
   options ← kea_options true known (get (codes "option-data") d)
   address ← server_address options server
-  kea_settings_with known options (record { server = address; times = times; calculated = calculated; shares = shares_given d; outside = outside; bare = server_has_bare_names d }) d
+  kea_settings_with known options (record { server = address; times = times; calculated = calculated; shares = shares_given d; outside = outside; bare = server_has_bare_names d; policy = policy }) d
 
 -- the settings that the value of a whole text describes
 unfoldable pub kea_root : Option ℕ → Data → Option Settings

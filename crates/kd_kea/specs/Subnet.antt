@@ -17,6 +17,7 @@ use Rattle.kd_kea.specs.HostName.{has_bare_names}
 use Rattle.kd_kea.specs.Keys.{is_plain, keys_are_read, word}
 use Rattle.kd_kea.specs.Options.{kea_options}
 use Rattle.kd_kea.specs.Parts.{parts_of_all}
+use Rattle.kd_kea.specs.Policy.{repeats_policy}
 use Rattle.kd_kea.specs.Pool.{kea_pool}
 use Rattle.kd_kea.specs.Relay.{relays_of}
 use Rattle.kd_kea.specs.Reservation.{kea_reservation}
@@ -62,6 +63,7 @@ unfoldable pub has_subnet_form : Above → Data → Option (Unit {0})
 has_subnet_form above d = do
   _ ← must (keys_are_read subnet_keys d)
   _ ← repeats_times above.calculated above.shares above.times d
+  _ ← must (repeats_policy above.policy d)
   _ ← number_if_given 1 4294967294 1 (get (codes "id") d)
   Some tt
 

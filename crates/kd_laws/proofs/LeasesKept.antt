@@ -9,7 +9,7 @@ use Rattle.std.specs.List.{slice_get}
 use Rattle.kd_event.specs.declared.reason.Reason.{Reason}
 use Rattle.kd_lease.specs.Change.{after, asked_for}
 use Rattle.kd_lease.specs.Choice.{Asking, live_row}
-use Rattle.kd_lease.specs.Client.{client_identity}
+use Rattle.kd_lease.specs.Client.{identity_under}
 use Rattle.kd_lease.specs.Laws.{EndsAreFounded, HeldHasNoRank, HeldIsNotGiven, HeldIsNotUsable, SetsNow}
 use Rattle.kd_lease.specs.Plan.{Outcome, ReplyOption}
 use Rattle.kd_lease.specs.Plan.Outcome.{planned, quiet}
@@ -264,7 +264,7 @@ module _ (get_of_set : GetOfSet) (latest_of_set : LatestOfSet) (sets_now : SetsN
   -- a reply gives an address of a client to another only when the lifetime has passed
   given_by : (f : LeaseStep) (a : ℕ) (client other : List ℕ) (start time : ℕ) (outcome : Outcome) (options : List ReplyOption) → (outcome ≡ planned kinds.Offer a options) ⊎ (outcome ≡ planned kinds.Ack a options)
       → (c : ChangesTo f outcome) (r : Ruled f.config f.before c.names f.message (now_of f) c.set outcome)
-      → client_identity f.message ≡ Some other → other ≢ client → Holds f.before a client (start + time) → start + time ≤ now_of f
+      → identity_under f.config f.message ≡ Some other → other ≢ client → Holds f.before a client (start + time) → start + time ≤ now_of f
   given_by f a client other start time outcome options gives c r by apart h = by_live (cases_Bool (live_row (now_of f) h.row)) where
     others : belongs_to r.client h.row ≡ false
     others = false_from_ne_true (belongs_to r.client h.row) (λ own.

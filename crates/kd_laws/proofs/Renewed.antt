@@ -246,7 +246,9 @@ module _ (q : Asking) (keeps : q.config.extensions.keeps_leases ≡ true) (renew
   prefix = ap (λ (o : Option Subnet). passes_in (covers q.config.subnets) o (Some a)) serves ∙ is_home.0
 
   known : holds_at q (Some a) checks.Client ≡ true
-  known = ap (known_in q) serves ∙ sym (known_there q its_home (Some a) (and_from (client_has q a) (covers q.config.subnets its_home a) mine is_home.0))
+  known =
+      or_right q.config.extensions.is_authoritative (known_in q (serving_subnet q))
+      (ap (known_in q) serves ∙ sym (known_there q its_home (Some a) (and_from (client_has q a) (covers q.config.subnets its_home a) mine is_home.0)))
 
   renewable_there : holds_at q (Some a) checks.Lasts ≡ true
   renewable_there = ap (λ (o : Option Subnet). passes_in (lasting_for q) o (Some a)) serves ∙ lasts

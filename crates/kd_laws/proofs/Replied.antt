@@ -5,13 +5,14 @@ use Rattle.std.specs.List.{AllByRecursion, IsDistinct}
 use Rattle.std.proofs.lemmas.List.{length-replicate}
 use Rattle.std.proofs.lemmas.List.Sums.{sum_by-cons}
 use Rattle.std.proofs.lemmas.Nat.{or_of_16}
+use Rattle.std.specs.Option.{option_or}
 use Rattle.kd_config.specs.Configuration.{Configuration}
 use Rattle.kd_config.specs.Sound.{IsSound}
 use Rattle.kd_event.specs.declared.reason.Reason.{Reason}
 use Rattle.kd_event.specs.declared.reason.Reason.TheVariants as reasons
 use Rattle.kd_lease.specs.Change.{AnswersTo, Changes, ForClient, HasReplyOptions, Unless, WhereFits, asked_for, fits_in}
 use Rattle.kd_lease.specs.Choice.{Asking}
-use Rattle.kd_lease.specs.Client.{client_identity, first_byte, identity_by, identity_by_hardware, reply_room, server_message}
+use Rattle.kd_lease.specs.Client.{first_byte, identity_by, identity_by_hardware, identity_under, reply_room, server_message}
 use Rattle.kd_lease.specs.Laws.{EndsAreFounded}
 use Rattle.kd_lease.specs.Plan.{Outcome, ReplyOption, option_of_item}
 use Rattle.kd_lease.specs.Plan.Outcome.{planned, quiet}
@@ -86,11 +87,13 @@ unfolding header_of_reply
 reply_op kind yiaddr h = refl
 
 -- who the client is, is decided by option 61 and the hardware in the header
-same_client : (kind : PlanKind) (yiaddr : ℕ) (m reply : Seen)
-    → reply.header ≡ header_of_reply kind yiaddr m.header → value_of 61 reply.options ≡ value_of 61 m.options → client_identity reply ≡ client_identity m
+same_client : (config : Configuration) (kind : PlanKind) (yiaddr : ℕ) (m reply : Seen)
+    → reply.header ≡ header_of_reply kind yiaddr m.header → value_of 61 reply.options ≡ value_of 61 m.options → identity_under config reply ≡ identity_under config m
 unfolding header_of_reply
-same_client kind yiaddr m reply header value =
-    λ i. identity_by (value i) (identity_by_hardware (header i).htype (mac_of (header i)))
+same_client config kind yiaddr m reply header value =
+    λ i. if config.extensions.ignores_client_ids
+    then option_or (identity_by_hardware (header i).htype (mac_of (header i))) (identity_by (value i) None)
+    else identity_by (value i) (identity_by_hardware (header i).htype (mac_of (header i)))
 
 -- the cost, the codes and the values of items are those of their options
 items_cost : (items : List Item) → sum_by obligatory_cost items ≡ sum_by needed (map option_of_item items)
@@ -155,8 +158,8 @@ answered : (config : Configuration) (old new : List Row) (m : Seen) (now : ℕ) 
 answered config old new m now kind yiaddr options h =
     let Answers : List ℕ → Option Row → Outcome → Type 0 = λ client. AnswersTo (asked_for config old h.names m now client) in
     let Drops : List ℕ → Option Row → Outcome → Type 0 = λ client. Unless (is_held (codes "DROP") h.names) reasons.DropClass (Answers client) in
-    let requests = past_test kind yiaddr options (server_message m) reasons.NotRequest (ForClient (client_identity m) Drops) h.set h.decides in
-    let client = past_client kind yiaddr options (client_identity m) Drops h.set requests in
+    let requests = past_test kind yiaddr options (server_message m) reasons.NotRequest (ForClient (identity_under config m) Drops) h.set h.decides in
+    let client = past_client kind yiaddr options (identity_under config m) Drops h.set requests in
     let answers = past_test kind yiaddr options (is_held (codes "DROP") h.names) reasons.DropClass (Answers client.0) h.set client.1 in
     (client.0, fitting kind yiaddr options (asked_for config old h.names m now client.0) h.set answers)
 
@@ -225,7 +228,7 @@ module _ (founded : EndsAreFounded) (q : Asking) (sound : IsSound q.config) (fie
     reads = subst (λ (bytes : List ℕ). Reads bytes (read_back header room items)) (sym text_is) reads;
     header = refl;
     type = ap first_byte (said 53 refl ∙ told_type q sound kind yiaddr);
-    client = same_client kind yiaddr q.message (read_back header room items) refl (said 61 refl ∙ told_client q sound kind yiaddr);
+    client = same_client q.config kind yiaddr q.message (read_back header room items) refl (said 61 refl ∙ told_client q sound kind yiaddr);
     lifetime = said 51 refl ∙ told_lifetime q sound kind yiaddr;
   }
 

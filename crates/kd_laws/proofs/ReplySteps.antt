@@ -15,12 +15,12 @@ use Rattle.kd_event.specs.declared.reason.Reason.TheVariants as reasons
 use Rattle.kd_laws.specs.Lives.{AreSteps, AreStepsOfAll, IsAnswerOf, IsIdle, IsStepOf, Life, LivesAreHistories, Opening, Report, WasHistory, first_rows, reports}
 use Rattle.kd_laws.specs.NoOverlap.{GivesLease, GivesOffer, GivesTo, GivesUpBetween, Happens, LeaseHistory, LeaseStep, NoOverlapAcross, Regives, ShortenedBetween, lifetime_of, now_of}
 use Rattle.kd_laws.specs.Replies.{RepliesReadBack, lifetime_told}
-use Rattle.kd_laws.specs.Sent.{IsAmong, IsAnsweredBy, IsGivenUp, IsShortened, IsSomeStep, NeverOverlapBy, NoReplyOverlaps, reports_of_all}
+use Rattle.kd_laws.specs.Sent.{Exchange, IsAmong, IsAnsweredBy, IsGivenUp, IsShortened, IsSomeStep, NeverOverlapBy, NoReplyOverlaps, exchanges_of_all, exchanges_under}
 use Rattle.kd_laws.proofs.LiveLeases.{requested_if}
 use Rattle.kd_laws.proofs.OneStep.{one_message}
 use Rattle.kd_laws.proofs.Ruled.{IsSilent, Ruled, ruled}
 use Rattle.kd_lease.specs.Change.{Changes}
-use Rattle.kd_lease.specs.Client.{client_identity, kind_of}
+use Rattle.kd_lease.specs.Client.{identity_under, kind_of}
 use Rattle.kd_lease.specs.Laws.{EndsAreFounded}
 use Rattle.kd_lease.specs.Plan.{Outcome, ReplyOption}
 use Rattle.kd_lease.specs.Plan.Outcome.{planned, quiet}
@@ -38,26 +38,26 @@ use Rattle.kd_server.specs.Step.{Responds}
 use Rattle.kd_wire.specs.declared.header.Header.{Header}
 
 -- an event is a step under a configuration that obeys all limits
-record IsSoundStep (r : Report) (e : LeaseStep) : Type 0 where
-  config : Configuration
+record IsSoundStep (x : Exchange) (e : LeaseStep) : Type 0 where
   ports : Ports
-  is : IsStepOf config ports r e
-  sound : IsSound config
+  is : IsStepOf x.config ports x.report e
+  sound : IsSound x.config
 
 -- the steps are the events at which something happens, in their order
-Follow : List Report → List LeaseStep → Type 0
+Follow : List Exchange → List LeaseStep → Type 0
 Follow [] es = es ≡ []
-Follow (r ∷ rs) [] = IsIdle r.in_batch r.event r.answer × Follow rs []
-Follow (r ∷ rs) (e ∷ es) = (IsIdle r.in_batch r.event r.answer × Follow rs (e ∷ es)) ⊎ (IsSoundStep r e × Follow rs es)
+Follow (x ∷ xs) [] = IsIdle x.report.in_batch x.report.event x.report.answer × Follow xs []
+Follow (x ∷ xs) (e ∷ es) =
+    (IsIdle x.report.in_batch x.report.event x.report.answer × Follow xs (e ∷ es)) ⊎ (IsSoundStep x e × Follow xs es)
 
 -- an event at which nothing happens, before others
-idle_first : (r : Report) (rs : List Report) (es : List LeaseStep) → IsIdle r.in_batch r.event r.answer → Follow rs es → Follow (r ∷ rs) es
+idle_first : (r : Exchange) (rs : List Exchange) (es : List LeaseStep) → IsIdle r.report.in_batch r.report.event r.report.answer → Follow rs es → Follow (r ∷ rs) es
 unfolding Follow
 idle_first r rs [] idle f = (idle, f)
 idle_first r rs (e ∷ es) idle f = inl (idle, f)
 
 -- events and their steps, before others
-follow_then : (rs qs : List Report) (es fs : List LeaseStep) → Follow rs es → Follow qs fs → Follow (rs ++ qs) (es ++ fs)
+follow_then : (rs qs : List Exchange) (es fs : List LeaseStep) → Follow rs es → Follow qs fs → Follow (rs ++ qs) (es ++ fs)
 unfolding Follow
 follow_then [] qs es fs none f = subst (λ (l : List LeaseStep). Follow qs (l ++ fs)) (sym none) f
 follow_then (r ∷ rs) qs [] fs first f = idle_first r (rs ++ qs) fs first.0 (follow_then rs qs [] fs first.1 f)
@@ -65,31 +65,31 @@ follow_then (r ∷ rs) qs (e ∷ es) fs (inl first) f = inl (first.0, follow_the
 follow_then (r ∷ rs) qs (e ∷ es) fs (inr first) f = inr (first.0, follow_then rs qs es fs first.1 f)
 
 -- the steps of an opening whose configuration obeys all limits
-sound_steps : (config : Configuration) (ports : Ports) → IsSound config → (rs : List Report) (es : List LeaseStep) → AreSteps config ports rs es → Follow rs es
+sound_steps : (config : Configuration) (ports : Ports) → IsSound config → (rs : List Report) (es : List LeaseStep) → AreSteps config ports rs es → Follow (exchanges_under config rs) es
 unfolding Follow
 sound_steps config ports sound [] es are = are
 sound_steps config ports sound (r ∷ rs) [] are = (are.0, sound_steps config ports sound rs [] are.1)
 sound_steps config ports sound (r ∷ rs) (e ∷ es) (inl idle) = inl (idle.0, sound_steps config ports sound rs (e ∷ es) idle.1)
 sound_steps config ports sound (r ∷ rs) (e ∷ es) (inr step) =
-    inr (record { config = config; ports = ports; is = step.0; sound = sound }, sound_steps config ports sound rs es step.1)
+    inr (record { ports = ports; is = step.0; sound = sound }, sound_steps config ports sound rs es step.1)
 
-opening_steps : (o : Opening) (next : Option (List Row)) → WasHistory o next → (es : List LeaseStep) → AreSteps o.config o.ports (reports o.calls) es → Follow (reports o.calls) es
+opening_steps : (o : Opening) (next : Option (List Row)) → WasHistory o next → (es : List LeaseStep) → AreSteps o.config o.ports (reports o.calls) es → Follow (exchanges_under o.config (reports o.calls)) es
 unfolding Follow
 opening_steps o next was es are = ⊎_elim
     (λ none. let rs : reports o.calls ≡ [] = ap reports none in
-    subst (λ (l : List Report). Follow l es) (sym rs) (subst (λ (l : List Report). AreSteps o.config o.ports l es) rs are))
+    subst (λ (l : List Report). Follow (exchanges_under o.config l) es) (sym rs) (subst (λ (l : List Report). AreSteps o.config o.ports l es) rs are))
     (λ sound. sound_steps o.config o.ports sound (reports o.calls) es are)
     was.sound
 
 -- the steps of a life
-life_steps : (life : List Opening) → Life life → (es : List LeaseStep) → AreStepsOfAll life es → Follow (reports_of_all life) es
+life_steps : (life : List Opening) → Life life → (es : List LeaseStep) → AreStepsOfAll life es → Follow (exchanges_of_all life) es
 unfolding Follow
 life_steps [] is es are = are
 life_steps (o ∷ []) is es are =
-    subst (Follow (reports o.calls ++ [])) (sym are.2) (follow_then (reports o.calls) [] are.0 are.1 (opening_steps o None is are.0 are.3) are.4)
+    subst (Follow (exchanges_under o.config (reports o.calls) ++ [])) (sym are.2) (follow_then (exchanges_under o.config (reports o.calls)) [] are.0 are.1 (opening_steps o None is are.0 are.3) are.4)
 life_steps (o ∷ p ∷ os) is es are =
-    subst (Follow (reports o.calls ++ reports_of_all (p ∷ os))) (sym are.2)
-    (follow_then (reports o.calls) (reports_of_all (p ∷ os)) are.0 are.1 (opening_steps o (Some p.rows) is.0 are.0 are.3) (life_steps (p ∷ os) is.1 are.1 are.4))
+    subst (Follow (exchanges_under o.config (reports o.calls) ++ exchanges_of_all (p ∷ os))) (sym are.2)
+    (follow_then (exchanges_under o.config (reports o.calls)) (exchanges_of_all (p ∷ os)) are.0 are.1 (opening_steps o (Some p.rows) is.0 are.0 are.3) (life_steps (p ∷ os) is.1 are.1 are.4))
 
 -- a list that is not empty
 filled : {A : Type 0} (front : List A) (x : A) (back : List A) → [] ≡ front ++ x ∷ back → ⊥
@@ -97,7 +97,7 @@ filled [] x back e = let h = e in absurd (cc)
 filled (y ∷ front) x back e = let h = e in absurd (cc)
 
 -- the steps before that of an event, its step, and those after it
-record IsParted (rs : List Report) (r : Report) (qs : List Report) (es : List LeaseStep) : Type 0 where
+record IsParted (rs : List Exchange) (r : Exchange) (qs : List Exchange) (es : List LeaseStep) : Type 0 where
   first : List LeaseStep
   step : LeaseStep
   rest : List LeaseStep
@@ -107,7 +107,7 @@ record IsParted (rs : List Report) (r : Report) (qs : List Report) (es : List Le
   after : Follow qs rest
 
 -- an event at which something happens has a step
-parted : (rs : List Report) (r : Report) (qs : List Report) (es : List LeaseStep) → (IsIdle r.in_batch r.event r.answer → ⊥) → Follow (rs ++ r ∷ qs) es → IsParted rs r qs es
+parted : (rs : List Exchange) (r : Exchange) (qs : List Exchange) (es : List LeaseStep) → (IsIdle r.report.in_batch r.report.event r.report.answer → ⊥) → Follow (rs ++ r ∷ qs) es → IsParted rs r qs es
 unfolding Follow
 parted [] r qs [] busy f = absurd (busy f.0)
 parted [] r qs (e ∷ es) busy (inl f) = absurd (busy f.0)
@@ -170,20 +170,20 @@ in_between (y ∷ first) e mid tail zero x after before is = absurd (omega (arit
 in_between (y ∷ first) e mid tail (suc k) x after before is = in_between first e mid tail k x (omega (arith, after)) (omega (arith, before)) is
 
 -- a step is that of an event
-its_event : (rs : List Report) (es front : List LeaseStep) (x : LeaseStep) (back : List LeaseStep) → es ≡ front ++ x ∷ back → Follow rs es → IsAmong (λ r. IsSoundStep r x) rs
+its_event : (rs : List Exchange) (es front : List LeaseStep) (x : LeaseStep) (back : List LeaseStep) → es ≡ front ++ x ∷ back → Follow rs es → IsAmong (λ r. IsSoundStep r x) rs
 unfolding Follow
 its_event [] es front x back all f = absurd (filled front x back (sym f ∙ all))
 its_event (r ∷ rs) [] front x back all f = absurd (filled front x back all)
 its_event (r ∷ rs) (e ∷ es) front x back all (inl f) =
     let i = its_event rs (e ∷ es) front x back all f.1 in
-    record { front = r ∷ i.front; report = i.report; back = i.back; all = ap (λ l. r ∷ l) i.all; is = i.is }
+    record { front = r ∷ i.front; exchange = i.exchange; back = i.back; all = ap (λ l. r ∷ l) i.all; is = i.is }
 its_event (r ∷ rs) (e ∷ es) [] x back all (inr f) =
     let same : e ≡ x = cc in
-    record { front = []; report = r; back = rs; all = refl; is = subst (IsSoundStep r) same f.0 }
+    record { front = []; exchange = r; back = rs; all = refl; is = subst (IsSoundStep r) same f.0 }
 its_event (r ∷ rs) (e ∷ es) (y ∷ front) x back all (inr f) =
     let rest : es ≡ front ++ x ∷ back = cc in
     let i = its_event rs es front x back rest f.1 in
-    record { front = r ∷ i.front; report = i.report; back = i.back; all = ap (λ l. r ∷ l) i.all; is = i.is }
+    record { front = r ∷ i.front; exchange = i.exchange; back = i.back; all = ap (λ l. r ∷ l) i.all; is = i.is }
 
 -- what happens in a step of a history
 happens_at : (rows : List Row) (first : List LeaseStep) (e : LeaseStep) (rest : List LeaseStep) → LeaseHistory rows (first ++ e ∷ rest) → Happens e e.outcome
@@ -206,7 +206,7 @@ record Decided (e : LeaseStep) (type : MessageType) (client : List ℕ) (a secon
   options : List ReplyOption
   outcome : e.outcome ≡ Some (planned kind a options)
   changes : Changes e.config e.before e.message (now_of e) e.after (planned kind a options)
-  by : client_identity e.message ≡ Some client
+  by : identity_under e.config e.message ≡ Some client
   type_is : plan_type kind ≡ type_number type
   told : lifetime_told kind e.config.times ≡ Some (big_bytes 4 seconds)
   range : seconds < 2 ^ 32
@@ -219,7 +219,7 @@ unfolding header_of_reply
 yiaddr_of kind y h = refl
 
 module _ (founded : EndsAreFounded) (read_back : RepliesReadBack) where
-  decided : (r : Report) (e : LeaseStep) (type : MessageType) (client : List ℕ) (a seconds now : ℕ) → IsSoundStep r e → Happens e e.outcome → IsAnsweredBy type r client a seconds now
+  decided : (r : Exchange) (e : LeaseStep) (type : MessageType) (client : List ℕ) (a seconds now : ℕ) → IsSoundStep r e → Happens e e.outcome → IsAnsweredBy type r client a seconds now
       → Decided e type client a seconds now
   decided r e type client a seconds now is happens given = by answered.1.0 answered.1.1 answered.1.2 where
     response : Response
@@ -238,7 +238,7 @@ module _ (founded : EndsAreFounded) (read_back : RepliesReadBack) where
     by (quiet reason) outcome responds = absurd (let same : response ≡ responses.Quiet reason = responds in cc)
     by (planned kind yiaddr options) outcome responds =
         let changes : Happens e (Some (planned kind yiaddr options)) = subst (Happens e) outcome happens in
-        let m : IsMessage e.message = record { datagram = r.event.bytes; bytes_are = given.datagram; reads = is.is.reads } in
+        let m : IsMessage e.message = record { datagram = r.report.event.bytes; bytes_are = given.datagram; reads = is.is.reads } in
         let back = read_back e.config e.before e.after e.message (now_of e) kind yiaddr options given.reply sound m changes responds.1 in
         let same = one_message given.reply back.reply given.gives.message back.reads given.gives.reads in
         let header : given.gives.message.header ≡ header_of_reply kind yiaddr e.message.header = ap (λ m. m.header) (sym same) ∙ back.header in
@@ -248,7 +248,8 @@ module _ (founded : EndsAreFounded) (read_back : RepliesReadBack) where
           options = options;
           outcome = outcome ∙ ap (λ (y : ℕ). Some (planned kind y options)) address;
           changes = subst (λ (y : ℕ). Changes e.config e.before e.message (now_of e) e.after (planned kind y options)) address changes;
-          by = sym back.client ∙ ap client_identity same ∙ given.gives.for_client;
+          by = sym back.client ∙ ap (identity_under e.config) same
+              ∙ ap (λ (config : Configuration). identity_under config given.gives.message) is.is.config_is ∙ given.gives.for_client;
           type_is = sym back.type ∙ ap kind_of same ∙ given.gives.type_is;
           told = sym back.lifetime ∙ ap (λ m. value_of 51 m.options) same ∙ given.gives.time;
           range = given.gives.range;
@@ -267,7 +268,7 @@ module _ (founded : EndsAreFounded) (read_back : RepliesReadBack) where
     by r = sym r.does.is ∙ ap type_number (requested_if founded _ r.does.type c.set a options r.does.sets)
 
   acks : (e : LeaseStep) (client : List ℕ) (a seconds now : ℕ) (kind : PlanKind) (options : List ReplyOption) → plan_type kind ≡ 5 → lifetime_told kind e.config.times ≡ Some (big_bytes 4 seconds)
-      → e.outcome ≡ Some (planned kind a options) → Changes e.config e.before e.message (now_of e) e.after (planned kind a options) → client_identity e.message ≡ Some client
+      → e.outcome ≡ Some (planned kind a options) → Changes e.config e.before e.message (now_of e) e.after (planned kind a options) → identity_under e.config e.message ≡ Some client
       → GivesLease e client a × (big_bytes 4 (lifetime_of e) ≡ big_bytes 4 seconds)
   acks e client a seconds now kinds.Offer options type told outcome changes by = absurd (omega (arith, type))
   acks e client a seconds now kinds.Ack options type told outcome changes by =
@@ -276,7 +277,7 @@ module _ (founded : EndsAreFounded) (read_back : RepliesReadBack) where
   acks e client a seconds now kinds.Nak options type told outcome changes by = absurd (omega (arith, type))
 
   offers : (e : LeaseStep) (client : List ℕ) (a : ℕ) (kind : PlanKind) (options : List ReplyOption) → plan_type kind ≡ 2
-      → e.outcome ≡ Some (planned kind a options) → client_identity e.message ≡ Some client → GivesOffer e client a
+      → e.outcome ≡ Some (planned kind a options) → identity_under e.config e.message ≡ Some client → GivesOffer e client a
   offers e client a kinds.Offer options type outcome by = record { by = by; options = options; offer = outcome }
   offers e client a kinds.Ack options type outcome by = absurd (omega (arith, type))
   offers e client a kinds.InformAck options type outcome by = absurd (omega (arith, type))
@@ -300,17 +301,17 @@ module _ (founded : EndsAreFounded) (read_back : RepliesReadBack) where
         (λ late. inl (omega (arith, late, one.1, p.time, q.time)))
         (λ loosened. inr (⊎_elim (λ up. inl (given_up up)) (λ short. inr (shortened short)) loosened))
         (across (first_rows life) es history i j e f client a regives) where
-          steps : Follow (reports_of_all life) all
+          steps : Follow (exchanges_of_all life) all
           steps = life_steps life is all are
 
           early : IsParted twice.before twice.first (between ++ twice.second ∷ twice.after) all
           early = parted twice.before twice.first (between ++ twice.second ∷ twice.after) all
-              (busy_if twice.first.in_batch twice.first now twice.leases.destination twice.leases.reply twice.leases.answer)
-              (subst (λ (rs : List Report). Follow rs all) twice.order steps)
+              (busy_if twice.first.report.in_batch twice.first.report now twice.leases.destination twice.leases.reply twice.leases.answer)
+              (subst (λ (rs : List Exchange). Follow rs all) twice.order steps)
 
           late_part : IsParted between twice.second twice.after early.rest
           late_part = parted between twice.second twice.after early.rest
-              (busy_if twice.second.in_batch twice.second later twice.gives.destination twice.gives.reply twice.gives.answer) early.after
+              (busy_if twice.second.report.in_batch twice.second.report later twice.gives.destination twice.gives.reply twice.gives.answer) early.after
 
           e : LeaseStep
           e = early.step
@@ -365,27 +366,27 @@ module _ (founded : EndsAreFounded) (read_back : RepliesReadBack) where
               let it = in_between early.first e late_part.first tail place step after before there in
               its_event between late_part.first it.front step it.back it.all late_part.before
 
-          a_step : (r : Report) (place : ℕ) (step : LeaseStep) → slice_get es place ≡ Some step → IsSoundStep r step → IsSomeStep all r step
+          a_step : (r : Exchange) (place : ℕ) (step : LeaseStep) → slice_get es place ≡ Some step → IsSoundStep r step → IsSomeStep all r step
           a_step r place step there its =
               let at = in_at es place step there in
-              record { config = its.config; ports = its.ports; is = its.is; front = at.front; back = at.back; there = grouped ∙ at.all }
+              record { ports = its.ports; is = its.is; front = at.front; back = at.back; there = grouped ∙ at.all }
 
           given_up : GivesUpBetween es i j client a → IsAmong (IsGivenUp all client a) between
           given_up g =
               let it = event_of g.place g.step g.after g.before g.there in
-              record { front = it.front; report = it.report; back = it.back; all = it.all; is = record { step = g.step; is = a_step it.report g.place g.step g.there it.is; gives_up = g.gives_up } }
+              record { front = it.front; exchange = it.exchange; back = it.back; all = it.all; is = record { step = g.step; is = a_step it.exchange g.place g.step g.there it.is; gives_up = g.gives_up } }
 
           shortened : ShortenedBetween es i j e client a (now_of f) → IsAmong (IsShortened all client a seconds later) between
           shortened s =
               let it = event_of s.place s.step s.after s.before s.there in
               record {
                 front = it.front;
-                report = it.report;
+                exchange = it.exchange;
                 back = it.back;
                 all = it.all;
                 is = record {
                   step = s.step;
-                  is = a_step it.report s.place s.step s.there it.is;
+                  is = a_step it.exchange s.place s.step s.there it.is;
                   renews = s.renews;
                   shorter = let short = s.shorter in omega (arith, short, one.1);
                   past = let past = s.past in omega (arith, past, q.time);

@@ -4,7 +4,7 @@ use Rattle.kd_config.specs.Configuration.{Configuration}
 use Rattle.kd_event.specs.declared.reason.Reason.{Reason}
 use Rattle.kd_event.specs.declared.reason.Reason.TheVariants as reasons
 use Rattle.kd_lease.specs.Change.{AnswersTo, Decides, ForClient, Unless, WhereFits, asked_for, fits_in}
-use Rattle.kd_lease.specs.Client.{client_identity, server_message, reply_room}
+use Rattle.kd_lease.specs.Client.{identity_under, server_message, reply_room}
 use Rattle.kd_lease.specs.Plan.{Outcome}
 use Rattle.kd_lease.specs.Plan.Outcome.{quiet}
 use Rattle.kd_lease.specs.Rules.{Does}
@@ -19,7 +19,7 @@ IsSilent set got = (set ≡ None) × ((reason : Reason) × (got ≡ quiet reason
 -- a row is set, or none, and the message has its outcome by a rule
 pub record Ruled (config : Configuration) (rows : List Row) (names : List (List ℕ)) (m : Seen) (now : ℕ) (set : Option Row) (got : Outcome) : Type 0 where
   pub client : List ℕ
-  pub by : client_identity m ≡ Some client
+  pub by : identity_under config m ≡ Some client
   pub does : Does (asked_for config rows names m now client) set got
 
 unless : (P : Type 0) (b : Bool) (reason : Reason) (Done : Option Row → Outcome → Type 0) (set : Option Row) (got : Outcome)
@@ -41,8 +41,8 @@ where_fits P false row outcome set got silent done h = silent (h.0, (reasons.Rep
 pub ruled : (config : Configuration) (rows : List Row) (names : List (List ℕ)) (m : Seen) (now : ℕ) (set : Option Row) (got : Outcome)
     → Decides config rows names m now set got → IsSilent set got ⊎ Ruled config rows names m now set got
 ruled config rows names m now set got h =
-    unless Goal (server_message m) reasons.NotRequest (ForClient (client_identity m) served) set got inl
-    (for_client Goal (client_identity m) served set got inl
+    unless Goal (server_message m) reasons.NotRequest (ForClient (identity_under config m) served) set got inl
+    (for_client Goal (identity_under config m) served set got inl
     (λ client by. unless Goal (is_held (codes "DROP") names) reasons.DropClass (AnswersTo (asked_for config rows names m now client)) set got inl (answered client by))) h where
       Goal : Type 0
       Goal = IsSilent set got ⊎ Ruled config rows names m now set got
@@ -50,7 +50,7 @@ ruled config rows names m now set got h =
       served : List ℕ → Option Row → Outcome → Type 0
       served client = Unless (is_held (codes "DROP") names) reasons.DropClass (AnswersTo (asked_for config rows names m now client))
 
-      answered : (client : List ℕ) → client_identity m ≡ Some client → AnswersTo (asked_for config rows names m now client) set got → IsSilent set got ⊎ Ruled config rows names m now set got
+      answered : (client : List ℕ) → identity_under config m ≡ Some client → AnswersTo (asked_for config rows names m now client) set got → IsSilent set got ⊎ Ruled config rows names m now set got
       answered client by a =
           let q = asked_for config rows names m now client in
           where_fits (IsSilent set got ⊎ Ruled config rows names m now set got) (fits_in (reply_room m) a.outcome) a.row a.outcome set got inl

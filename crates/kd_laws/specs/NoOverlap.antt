@@ -4,7 +4,7 @@ use Rattle.std.specs.Prelude.{◌≡◌, ◌≢◌, ℕ, ◌+◌, ◌<◌, ◌�
 use Rattle.std.specs.List.{slice_get}
 use Rattle.kd_config.specs.Configuration.{Configuration}
 use Rattle.kd_lease.specs.Change.{Changes}
-use Rattle.kd_lease.specs.Client.{client_identity, kind_of}
+use Rattle.kd_lease.specs.Client.{identity_under, kind_of}
 use Rattle.kd_lease.specs.Plan.{Outcome, ReplyOption}
 use Rattle.kd_lease.specs.Plan.Outcome.{planned}
 use Rattle.kd_lease.specs.declared.plan.PlanKind.TheVariants as kinds
@@ -61,14 +61,14 @@ HistoryTo rows (e ∷ es) last =
 
 -- a step leases an address to a client: the ACK of a REQUEST
 pub record GivesLease (e : LeaseStep) (client : List ℕ) (a : ℕ) : Type 0 where
-  pub by : client_identity e.message ≡ Some client
+  pub by : identity_under e.config e.message ≡ Some client
   pub request : kind_of e.message ≡ type_number types.Request
   pub options : List ReplyOption
   pub ack : e.outcome ≡ Some (planned kinds.Ack a options)
 
 -- a step offers an address to a client
 pub record GivesOffer (e : LeaseStep) (client : List ℕ) (a : ℕ) : Type 0 where
-  pub by : client_identity e.message ≡ Some client
+  pub by : identity_under e.config e.message ≡ Some client
   pub options : List ReplyOption
   pub offer : e.outcome ≡ Some (planned kinds.Offer a options)
 
@@ -78,7 +78,7 @@ GivesTo e client a = GivesOffer e client a ⊎ GivesLease e client a
 
 -- the client gives up an address in a step: its RELEASE or DECLINE changed the row of the address
 pub record GivesUp (e : LeaseStep) (client : List ℕ) (a : ℕ) : Type 0 where
-  pub by : client_identity e.message ≡ Some client
+  pub by : identity_under e.config e.message ≡ Some client
   pub kind : (kind_of e.message ≡ type_number types.Release)
       ⊎ (kind_of e.message ≡ type_number types.Decline)
   pub changed : row_at e.after a ≢ row_at e.before a
@@ -95,7 +95,7 @@ pub record GivesUpBetween (es : List LeaseStep) (i j : ℕ) (client : List ℕ) 
 -- in this step the client requests an address that it leases, and the row of the address is then
 -- that of a new lease, whether the step was stopped or not
 pub record Renews (e : LeaseStep) (client : List ℕ) (a : ℕ) : Type 0 where
-  pub by : client_identity e.message ≡ Some client
+  pub by : identity_under e.config e.message ≡ Some client
   pub request : kind_of e.message ≡ type_number types.Request
   pub row : row_at e.after a ≡ Some (record {
     address = a;

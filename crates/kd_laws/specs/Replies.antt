@@ -6,7 +6,7 @@ use Rattle.kd_config.specs.Configuration.{Configuration}
 use Rattle.kd_config.specs.Sound.{IsSound}
 use Rattle.kd_config.specs.declared.times.Times.{Times}
 use Rattle.kd_lease.specs.Change.{Changes}
-use Rattle.kd_lease.specs.Client.{client_identity, kind_of, reply_room}
+use Rattle.kd_lease.specs.Client.{identity_under, kind_of, reply_room}
 use Rattle.kd_lease.specs.Plan.{ReplyOption}
 use Rattle.kd_lease.specs.Plan.Outcome.{planned}
 use Rattle.kd_lease.specs.ReplyOf.{IsReplyText, header_of_reply}
@@ -32,7 +32,7 @@ pub record ReadsAsReply (config : Configuration) (m : Seen) (kind : PlanKind) (y
   pub reads : Reads text reply
   pub header : reply.header ≡ header_of_reply kind yiaddr m.header
   pub type : kind_of reply ≡ plan_type kind
-  pub client : client_identity reply ≡ client_identity m
+  pub client : identity_under config reply ≡ identity_under config m
   pub lifetime : value_of 51 reply.options ≡ lifetime_told kind config.times
 
 -- whatever a reply's text is by the rules, over a configuration that obeys its limits, it reads as

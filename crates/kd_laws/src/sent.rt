@@ -23,7 +23,8 @@ pub fn replies_read_back()
 /// client, then these seconds have passed, in the time by which the server answered; or in between
 /// the first client gave the address up, by a RELEASE or DECLINE that changed its row; or it asked
 /// for the address again under a shorter lifetime, and that has passed. A client is known by what
-/// its replies say: option 61, or else its hardware.
+/// its replies say: option 61, or else its hardware; or, where a configuration ignores client
+/// identifiers, its hardware, or else option 61.
 pub fn no_reply_overlaps()
     ensures { NoReplyOverlaps }
 {

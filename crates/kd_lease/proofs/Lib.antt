@@ -11,5 +11,6 @@ pub mod Pools
 pub mod Records
 pub mod Reserved
 pub mod Single
+pub mod Strangers
 pub mod Valuing
 pub mod Withheld

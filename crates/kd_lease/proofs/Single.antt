@@ -11,7 +11,7 @@ use Rattle.kd_event.specs.declared.reason.Reason.TheVariants as reasons
 use Rattle.kd_lease.specs.Change.{AnswersTo, Decides, ForClient, HasReplyOptions, Unless, WhereFits, after, asked_for, fits_in}
 use Rattle.kd_lease.specs.Choice.{Asking, Choice, IsFirstOf, Rank, address_reserved, changed_in, free_for, pool_place, place, same_address, set_later, usable}
 use Rattle.kd_lease.specs.Choice.Rank.{asked, expired, fresh, own, past, reserved}
-use Rattle.kd_lease.specs.Client.{client_identity, reply_room, requested_address, server_message}
+use Rattle.kd_lease.specs.Client.{identity_under, reply_room, requested_address, server_message}
 use Rattle.kd_lease.specs.Laws.{EndsDecide, OneAnswer, OneChange}
 use Rattle.kd_lease.specs.Plan.{Outcome}
 use Rattle.kd_lease.specs.Plan.Outcome.{planned, quiet}
@@ -237,8 +237,8 @@ one_for_client (Some client) Done one x u y v h k = one client x u y v h k
 -- what is decided for a message is determined
 pub one_answer : OneAnswer
 one_answer config rows names m now set other got its h k =
-    one_unless (server_message m) reasons.NotRequest (ForClient (client_identity m) served)
-    (one_for_client (client_identity m) served (λ client. one_unless (is_held (codes "DROP") names) reasons.DropClass (AnswersTo (asked_for config rows names m now client)) (one_answers (asked_for config rows names m now client))))
+    one_unless (server_message m) reasons.NotRequest (ForClient (identity_under config m) served)
+    (one_for_client (identity_under config m) served (λ client. one_unless (is_held (codes "DROP") names) reasons.DropClass (AnswersTo (asked_for config rows names m now client)) (one_answers (asked_for config rows names m now client))))
     set other got its h k where
       served : List ℕ → Option Row → Outcome → Type 0
       served client = Unless (is_held (codes "DROP") names) reasons.DropClass (AnswersTo (asked_for config rows names m now client))

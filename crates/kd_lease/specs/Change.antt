@@ -11,7 +11,7 @@ use Rattle.kd_options.specs.Message.{Seen}
 use Rattle.kd_rows.specs.Table.{with_row}
 use Rattle.kd_rows.specs.declared.row.Row.{Row}
 use Rattle.kd_lease.specs.Choice.{Asking}
-use Rattle.kd_lease.specs.Client.{client_identity, server_message, reply_room}
+use Rattle.kd_lease.specs.Client.{identity_under, server_message, reply_room}
 use Rattle.kd_lease.specs.Plan.{Outcome}
 use Rattle.kd_lease.specs.Plan.Outcome.{planned, quiet}
 use Rattle.kd_lease.specs.ReplyOf.{within_room}
@@ -64,7 +64,7 @@ abbrev pub Decides : Configuration → List Row → List (List ℕ) → Seen →
     → Type 0
 Decides config rows names m now set got =
     Unless (server_message m) reasons.NotRequest
-    (ForClient (client_identity m)
+    (ForClient (identity_under config m)
     (λ client. Unless (is_held (codes "DROP") names) reasons.DropClass
     (AnswersTo (asked_for config rows names m now client)))) set got
 

@@ -1,10 +1,13 @@
 -- What a message says about its client (RFC 2131 sections 2 and 4.2, RFC 2132 sections 9.6, 9.8,
--- 9.10 and 9.14, RFC 3527): its type, who the client is, which server it names, which options it
--- asks for, how long a reply may be, and the link on which its relay says that it is.
-use Rattle.std.specs.Prelude.{ℕ, ◌+◌, ◌-◌, ◌*◌, max, min, Bool, true, ◌||◌, ◌==◌, nat_eq, List, [], ◌∷◌, Option, Some, None}
+-- 9.10 and 9.14, RFC 3527; Kea Administrator Reference Manual, Using Client Identifier and Hardware
+-- Address): its type, who the client is, which server it names, which options it asks for, how long a
+-- reply may be, and the link on which its relay says that it is.
+use Rattle.std.specs.Prelude.{ℕ, ◌+◌, ◌-◌, ◌*◌, max, min, Bool, true, ◌||◌, ◌==◌, nat_eq, List, [], ◌∷◌, Option, Some, None, if◌then◌else◌}
 use Rattle.std.specs.Int.{from_be_bytes, w32}
 use Rattle.std.specs.List.{list_any}
 use Rattle.std.specs.Map.{lookup}
+use Rattle.std.specs.Option.{option_or}
+use Rattle.kd_config.specs.Configuration.{Configuration}
 use Rattle.kd_options.specs.Joined.{value_of}
 use Rattle.kd_options.specs.Message.{Seen, mac_of}
 use Rattle.kd_options.specs.RelayWalk.{relay_list}
@@ -39,6 +42,17 @@ identity_by (Some (b ∷ bytes)) hardware = Some (1 ∷ b ∷ bytes)
 abbrev pub client_identity : Seen → Option (List ℕ)
 client_identity m =
     identity_by (value_of 61 m.options) (identity_by_hardware m.header.htype (mac_of m.header))
+
+-- who the client is where identifiers are ignored: by its hardware, otherwise by option 61
+abbrev pub hardware_identity : Seen → Option (List ℕ)
+hardware_identity m =
+    option_or (identity_by_hardware m.header.htype (mac_of m.header))
+    (identity_by (value_of 61 m.options) None)
+
+-- who the client is in a configuration, which may ignore identifiers
+abbrev pub identity_under : Configuration → Seen → Option (List ℕ)
+identity_under config m =
+    if config.extensions.ignores_client_ids then hardware_identity m else client_identity m
 
 -- the address in a value of four bytes
 abbrev pub address_of_value : Option (List ℕ) → Option ℕ

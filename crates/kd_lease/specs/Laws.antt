@@ -1,5 +1,5 @@
 -- What is true of the rules for every configuration, table, message and time.
-use Rattle.std.specs.Prelude.{◌≡◌, ℕ, true, false, not, ◌&&◌, ◌==◌, ◌⊎◌, List, [], Option, Some, None, option_map, IsSomeAnd}
+use Rattle.std.specs.Prelude.{◌≡◌, ℕ, true, false, not, ◌&&◌, ◌==◌, ◌⊎◌, List, [], Option, Some, None, option_map, IsSomeAnd, is_some}
 use Rattle.std.specs.List.{AllByRecursion, find}
 use Rattle.kd_config.specs.Address.{has_address}
 use Rattle.kd_config.specs.Networks.{covers, home_of, part_holding}
@@ -13,14 +13,16 @@ use Rattle.kd_rows.specs.Table.{belongs_to, row_at}
 use Rattle.kd_rows.specs.declared.row.Row.{Row}
 use Rattle.kd_lease.specs.Change.{Changes, Decides}
 use Rattle.kd_lease.specs.Choice.{Asking, Choice, Rank, fitting_for, has_rank, live_row, usable}
-use Rattle.kd_lease.specs.Client.{kind_of}
+use Rattle.kd_lease.specs.Client.{client_identity, identity_under, kind_of, named_server}
 use Rattle.kd_lease.specs.Plan.{Outcome, ReplyOption}
 use Rattle.kd_lease.specs.Plan.Outcome.{planned}
-use Rattle.kd_lease.specs.Rules.{Does, IsAbout, Makes, Sets, ending, held_at, lasting_for, renewable, rule_of, serving_subnet}
+use Rattle.kd_lease.specs.Rules.{Does, IsAbout, Makes, Sets, client_has, ending, held_at, holds_at, known_in, lasting_for, renewable, rule_of, serving_subnet}
 use Rattle.kd_lease.specs.SubnetOf.{class_admits, first_serving, header_place, link_of, message_place, subnet_serving}
 use Rattle.kd_lease.specs.declared.plan.PlanKind.TheVariants as kinds
+use Rattle.kd_lease.specs.declared.rule.Check.TheVariants as checks
 use Rattle.kd_lease.specs.declared.rule.Ending.{Ending}
 use Rattle.kd_lease.specs.declared.rule.Ending.TheVariants as ends
+use Rattle.kd_lease.specs.declared.rule.Rule.TheVariants as rules
 
 -- a row that is set has the present time as its time of change
 abbrev pub SetsNow : Type 0
@@ -138,6 +140,27 @@ RenewedByClass =
     (q : Asking) → q.config.extensions.keeps_leases ≡ false
     → (serving_subnet q ≡ subnet_serving q.config q.names q.message)
     × ((s : Subnet) (a : ℕ) → lasting_for q s a ≡ fitting_for q s a)
+
+-- where the server is not authoritative, a renewal is only refused for want of a record if its client
+-- has none in the subnet that serves it
+abbrev pub KnownByRecord : Type 0
+KnownByRecord =
+    (q : Asking) (about : Option ℕ) → q.config.extensions.is_authoritative ≡ false
+    → holds_at q about checks.Client ≡ known_in q (serving_subnet q)
+
+-- where it is, a client without a row at the address that it renews gets a NAK, if it has an address
+-- and a subnet serves it
+abbrev pub StrangersAreRefused : Type 0
+StrangersAreRefused =
+    (q : Asking) (a : ℕ) → q.config.extensions.is_authoritative ≡ true
+    → named_server q.message ≡ None → is_some (serving_subnet q) ≡ true → client_has q a ≡ false
+    → ending q (Some a) rules.Renew ≡ ends.Nak
+
+-- where client identifiers are not ignored, who a client is follows from its message alone
+abbrev pub KnownByMessage : Type 0
+KnownByMessage =
+    (config : Configuration) (m : Seen) → config.extensions.ignores_client_ids ≡ false
+    → identity_under config m ≡ client_identity m
 
 -- a subnet in no network has the addresses of its prefix, and its own options and mask are given
 abbrev pub StandsAlone : Type 0

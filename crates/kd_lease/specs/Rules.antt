@@ -187,7 +187,8 @@ holds_at q about checks.Choice = is_some about
 holds_at q about checks.Subnet = is_some (serving_subnet q)
 holds_at q about checks.Prefix =
     passes_in (covers q.config.subnets) (serving_subnet q) about
-holds_at q about checks.Client = known_in q (serving_subnet q)
+holds_at q about checks.Client =
+    q.config.extensions.is_authoritative || known_in q (serving_subnet q)
 holds_at q about checks.Owner = passes (client_has q) about
 holds_at q about checks.Fits = passes_in (fitting_for q) (serving_subnet q) about
 holds_at q about checks.Lasts = passes_in (lasting_for q) (serving_subnet q) about

@@ -1,4 +1,4 @@
-ghost use Rattle.std.specs.Prelude.{◌≡◌, Some};
+ghost use Rattle.std.specs.Prelude.{◌≡◌, ◌||◌, Some};
 ghost use Rattle.std.specs.List.{find};
 ghost use Rattle.std.specs.Option.{option_copied};
 ghost use Rattle.kd_config.specs.Networks.{covers};
@@ -56,7 +56,7 @@ pub fn holds(matter: &Matter<'_>, check: Check) -> bool
         Check::Choice => address.is_some(),
         Check::Subnet => question.subnet.is_some(),
         Check::Prefix => is_in_prefix(question, address),
-        Check::Client => is_known(question, address),
+        Check::Client => is_authoritative_or_known(question, address),
         Check::Owner => is_own(question, address),
         Check::Fits => is_fitting(question, address),
         Check::Lasts => is_lasting(question, address),
@@ -75,6 +75,15 @@ fn is_in_prefix(question: &Question<'_>, address: Option<u32>) -> bool
         (Some(subnet), Some(address)) => question.config.spans(subnet, address),
         _ => false,
     }
+}
+
+// Reports whether the server is authoritative, or the client has a row in the subnet that serves the
+// message.
+fn is_authoritative_or_known(question: &Question<'_>, address: Option<u32>) -> bool
+    ensures { let q = asking question.now in
+        result ≡ q.config.extensions.is_authoritative || known_in q (serving_subnet q) }
+{
+    question.config.extensions().is_authoritative || is_known(question, address)
 }
 
 // Reports whether a subnet serves the message and the client has a row at an address of it.

@@ -7,7 +7,7 @@ ghost use Rattle.kd_lease.specs.Rules.{IsSetAt, asking};
 use crate::client::{is_from_server, room_of};
 use crate::effects::effect_of;
 use crate::grounds::Ground;
-use crate::identities::identity;
+use crate::identities::identity_for;
 use crate::items::reply_items;
 use crate::plan::{Outline, Plan};
 use crate::question::Question;
@@ -67,7 +67,7 @@ pub fn decide_on(
     if is_from_server(message) {
         return Ok(quiet(Reason::NotRequest));
     }
-    let Some(client) = identity(alloc, message)? else {
+    let Some(client) = identity_for(alloc, over.config, message)? else {
         return Ok(quiet(Reason::NoIdentity));
     };
     if names.contains(b"DROP") {

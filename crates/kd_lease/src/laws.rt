@@ -1,6 +1,6 @@
 //! What is true of the rules, whatever the program does. Each law is the contract of a function
 //! that does nothing.
-ghost use Rattle.kd_lease.specs.Laws.{EndsAreFounded, EndsDecide, HeldHasNoRank, HeldIsNotGiven, HeldIsNotUsable, NakSetsNone, OneAnswer, OneChange, PlaceByHeader, RenewedByClass, ServesAlone, ServesByPrefix, SetsNow, StandsAlone};
+ghost use Rattle.kd_lease.specs.Laws.{EndsAreFounded, EndsDecide, HeldHasNoRank, HeldIsNotGiven, HeldIsNotUsable, KnownByMessage, KnownByRecord, NakSetsNone, OneAnswer, OneChange, PlaceByHeader, RenewedByClass, ServesAlone, ServesByPrefix, SetsNow, StandsAlone, StrangersAreRefused};
 
 /// A row that a message sets has the time of the message as its time of change.
 pub fn sets_now()
@@ -33,6 +33,23 @@ pub fn place_by_header()
 /// may be renewed fits.
 pub fn renewed_by_class()
     ensures { RenewedByClass }
+{}
+
+/// Where the server is not authoritative, a renewal fails for want of a record only if its client has
+/// none in the subnet that serves it.
+pub fn known_by_record()
+    ensures { KnownByRecord }
+{}
+
+/// Where the server is authoritative, a client that renews an address at which it has no row gets a
+/// NAK.
+pub fn strangers_are_refused()
+    ensures { StrangersAreRefused }
+{}
+
+/// Where client identifiers are not ignored, who a client is follows from its message alone.
+pub fn known_by_message()
+    ensures { KnownByMessage }
 {}
 
 /// A subnet in no network has the addresses of its prefix, and gives its own options and mask.

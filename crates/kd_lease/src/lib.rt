@@ -52,7 +52,7 @@ pub use decision::{decide, decide_on};
 pub use effects::effect_of;
 pub use fit::{contains, fits, in_pools, is_free, requested_of};
 pub use grounds::Ground;
-pub use identities::identity;
+pub use identities::{identity, identity_for};
 pub use kd_event::{Destination, Mode, Ports};
 pub use kd_rows::{Row, Rows, State};
 pub use keeping::{is_to_keep, subnet_kept};

@@ -18,8 +18,8 @@ pub enum Check {
     Subnet,
     /// The subnet's prefix contains the address: in a shared network, that of one of its subnets.
     Prefix,
-    /// The client has a row in the subnet's prefix: in a shared network, in that of one of its
-    /// subnets.
+    /// The client has a row in the subnet's prefix, or the server is authoritative: in a shared network,
+    /// in the prefix of one of its subnets.
     Client,
     /// The row of the address is the client's.
     Owner,

@@ -7,6 +7,7 @@ use crate::objects::definition::{Definition, known_definitions};
 use crate::objects::flags::{flag_at, flag_in, flag_or_default};
 use crate::objects::host_name::{names_are_bare, server_names_are_bare};
 use crate::objects::options::options_of;
+use crate::objects::policy::{Policy, written_policy};
 use crate::objects::reservation::ReservationReader;
 use crate::objects::scope::scope_of_all;
 use crate::objects::settings::address_of;
@@ -36,6 +37,8 @@ pub(crate) struct Around {
     pub(crate) outside: Option<bool>,
     // Host names have no suffix, unless a subnet says otherwise.
     pub(crate) bare: bool,
+    // What holds of clients.
+    pub(crate) policy: Option<Policy>,
     // The lease time, T1 and T2, in seconds.
     pub(crate) lifetime: Option<u32>,
     pub(crate) renew: Option<u32>,
@@ -58,6 +61,7 @@ pub(super) fn read_around(
         shares: shares_in(dhcp4),
         outside: flag_in(dhcp4, "reservations-out-of-pool"),
         bare: server_names_are_bare(dhcp4),
+        policy: written_policy(dhcp4),
         lifetime: written_lifetime(dhcp4),
         renew: written_renew(dhcp4),
         rebind: written_rebind(dhcp4),
@@ -133,6 +137,7 @@ pub(super) fn above_in(around: Around) -> Option<Above>
     let times = around.times?;
     let calculated = around.calculated?;
     let outside = around.outside?;
+    let policy = around.policy?;
     Some(Above {
         server,
         times,
@@ -140,6 +145,7 @@ pub(super) fn above_in(around: Around) -> Option<Above>
         shares: around.shares,
         outside,
         bare: around.bare,
+        policy,
     })
 }
 

@@ -9,9 +9,7 @@ use crate::notes::NoteKind;
 use crate::notes::around::{Around, above_in};
 use crate::notes::list::NoteList;
 use crate::notes::objects::{RelayObject, SubnetObject, note_keys, note_part_options};
-use crate::notes::values::{
-    note_calculated, note_flag, note_repeated, note_repeated_shares, note_text,
-};
+use crate::notes::values::{note_flag, note_inherited, note_text};
 use crate::notes::walk::{Listed, NotedObject, append_checked, note_failed, note_list, note_value};
 use crate::objects::alone::read_alone;
 use crate::objects::definition::Definition;
@@ -91,9 +89,7 @@ fn note_network_values(
     ensures { OnOk result
         (notes.new ≡ notes.old ++ network_values around path.now (view network.now)) }
 {
-    note_repeated(notes, network, path, around)?;
-    note_calculated(notes, network, path, around.calculated)?;
-    note_repeated_shares(notes, network, path, around.calculated, around.shares)?;
+    note_inherited(notes, network, path, around)?;
     note_inside(notes, network, path, around.address)
 }
 
@@ -235,6 +231,7 @@ fn around_inside(network: &Value, around: Around) -> Around
         shares: around.shares,
         outside: written_outside(network, around.outside),
         bare: names_are_bare(network, around.bare),
+        policy: around.policy,
         lifetime: around.lifetime,
         renew: around.renew,
         rebind: around.rebind,

@@ -14,7 +14,7 @@ use crate::notes::around::{Around, BelowReader, is_beside, read_around};
 use crate::notes::list::NoteList;
 use crate::notes::networks::NetworkObject;
 use crate::notes::values::{
-    note_flag, note_name, note_server_times, note_server_values, note_subnet_own,
+    note_name, note_server_flags, note_server_times, note_server_values, note_subnet_own,
     note_subnet_values, note_text,
 };
 use crate::notes::walk::{
@@ -69,7 +69,7 @@ impl NotedObject for ServerObject {
         note_keys(&mut inner, server, path, ObjectKind::Server)?;
         note_server_values(&mut inner, server, path)?;
         note_server_times(&mut inner, server, path)?;
-        note_flag(&mut inner, server, path, "reservations-out-of-pool")?;
+        note_server_flags(&mut inner, server, path)?;
         note_server_lists(&mut inner, server, path, self.address)?;
         let reader = ServerReader {
             address: self.address,

@@ -4,7 +4,7 @@ ghost use Rattle.serde_json.specs.View.{view};
 ghost use Rattle.kd_config.specs.Sound.{longest_lease};
 ghost use Rattle.kd_json.specs.Subnet.{subnet_prefix};
 ghost use Rattle.kd_json.specs.Values.{number_if_given, text_if_given};
-ghost use Rattle.kd_kea.specs.Notes.{calculated_notes, flag_note, hook_kind, hook_notes, interface_notes, lease_notes, limit_notes, name_notes, number_note, off_notes, repeated_notes, repeated_shares, server_times, server_values, service_notes, share_notes, subnet_own, subnet_values, text_note, time_note, unused_share, unused_shares, usual_note};
+ghost use Rattle.kd_kea.specs.Notes.{calculated_notes, flag_note, hook_kind, hook_notes, inherited_notes, interface_notes, lease_notes, limit_notes, name_notes, number_note, off_notes, policy_notes, repeated_notes, repeated_shares, server_flags, server_times, server_values, service_notes, share_notes, subnet_own, subnet_values, text_note, time_note, unused_share, unused_shares, usual_note};
 ghost use Rattle.kd_kea.specs.Rows.{plain_of};
 
 use crate::keys::{UsualValue, is_usual};
@@ -17,6 +17,7 @@ use crate::objects::alone::read_alone;
 use crate::objects::flags::{flag_in, is_usual_at};
 use crate::objects::hooks::are_quiet_hooks;
 use crate::objects::host_name::may_have_name;
+use crate::objects::policy::Policy;
 use crate::objects::settings::{has_identifiers, is_off};
 use crate::objects::subnet::{has_server_interface, written_prefix};
 use crate::objects::times::{
@@ -78,15 +79,30 @@ pub(super) fn note_subnet_values(
     ensures { OnOk result
         (notes.new ≡ notes.old ++ subnet_values around path.now (view subnet.now)) }
 {
-    note_repeated(notes, subnet, path, around)?;
-    note_calculated(notes, subnet, path, around.calculated)?;
-    note_repeated_shares(notes, subnet, path, around.calculated, around.shares)?;
+    note_inherited(notes, subnet, path, around)?;
     note_interface(notes, subnet, path, around.address)
+}
+
+// Notes what a subnet or a network may only repeat of the whole server.
+#[tactic(auto, unfolding(crate::specs::Notes::inherited_notes))]
+pub(super) fn note_inherited(
+    notes: &mut NoteList,
+    object: &Value,
+    path: &str,
+    around: Around,
+) -> Result<(), AllocError>
+    ensures { OnOk result
+        (notes.new ≡ notes.old ++ inherited_notes around path.now (view object.now)) }
+{
+    note_repeated(notes, object, path, around)?;
+    note_calculated(notes, object, path, around.calculated)?;
+    note_repeated_shares(notes, object, path, around.calculated, around.shares)?;
+    note_policy(notes, object, path, around.policy)
 }
 
 // Notes the times of a subnet or a network, which may only be those of the whole server.
 #[tactic(auto, unfolding(crate::specs::Notes::repeated_notes))]
-pub(super) fn note_repeated(
+fn note_repeated(
     notes: &mut NoteList,
     subnet: &Value,
     path: &str,
@@ -186,7 +202,7 @@ fn note_shares(
 
 // Notes the shares of T1 and T2 of a subnet, which may only be those of the whole server if the
 // times are calculated.
-pub(super) fn note_repeated_shares(
+fn note_repeated_shares(
     notes: &mut NoteList,
     subnet: &Value,
     path: &str,
@@ -257,7 +273,7 @@ fn note_time(
 }
 
 // Notes whether the times of a subnet are calculated, if it is known of the whole server.
-pub(super) fn note_calculated(
+fn note_calculated(
     notes: &mut NoteList,
     subnet: &Value,
     path: &str,
@@ -271,6 +287,26 @@ pub(super) fn note_calculated(
     };
     let usual = UsualValue::Flag(calculated);
     note_unusual(notes, subnet, path, "calculate-tee-times", usual)
+}
+
+// Notes the policy of a subnet or a network, which may only be that of the whole server, if that is
+// known.
+fn note_policy(
+    notes: &mut NoteList,
+    object: &Value,
+    path: &str,
+    policy: Option<Policy>,
+) -> Result<(), AllocError>
+    ensures { OnOk result
+        (notes.new ≡ notes.old ++ policy_notes policy path.now (view object.now)) }
+{
+    let Some(policy) = policy else {
+        return Ok(());
+    };
+    let authoritative = UsualValue::Flag(policy.is_authoritative);
+    note_unusual(notes, object, path, "authoritative", authoritative)?;
+    let matches = UsualValue::Flag(policy.matches_client_ids);
+    note_unusual(notes, object, path, "match-client-id", matches)
 }
 
 // Notes the interface of a subnet, if the server's address and the subnet's prefix are known.
@@ -383,6 +419,20 @@ pub(super) fn note_subnet_own(
     note_failed(notes, prefix.is_some(), path, "subnet", NoteKind::Wrong)?;
     note_text(notes, subnet, path, "client-class")?;
     note_flag(notes, subnet, path, "reservations-out-of-pool")
+}
+
+// Notes the truth values of the whole server that are none.
+#[tactic(auto, unfolding(crate::specs::Notes::server_flags))]
+pub(super) fn note_server_flags(
+    notes: &mut NoteList,
+    dhcp4: &Value,
+    path: &str,
+) -> Result<(), AllocError>
+    ensures { OnOk result (notes.new ≡ notes.old ++ server_flags path.now (view dhcp4.now)) }
+{
+    note_flag(notes, dhcp4, path, "reservations-out-of-pool")?;
+    note_flag(notes, dhcp4, path, "authoritative")?;
+    note_flag(notes, dhcp4, path, "match-client-id")
 }
 
 // A key of a number, and its range.

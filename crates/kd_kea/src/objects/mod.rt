@@ -14,6 +14,7 @@ pub(crate) mod network;
 mod option_value;
 pub(crate) mod options;
 mod parts;
+pub(crate) mod policy;
 pub(crate) mod pool;
 mod quoted;
 pub(crate) mod relay;

@@ -12,6 +12,7 @@ use crate::objects::definition::Definition;
 use crate::objects::flags::{flag_or_default, non_empty, text_at};
 use crate::objects::host_name::names_are_bare;
 use crate::objects::options::options_of;
+use crate::objects::policy::check_policy;
 use crate::objects::relay::relays_in;
 use crate::objects::scope::part_scope;
 use crate::objects::subnet::{Above, SubnetReader};
@@ -167,6 +168,7 @@ fn check_form(
         above.shares,
         above.times,
     )?;
+    check_policy(alloc, value, at, above.policy)?;
     check_name(alloc, value, at)
 }
 
@@ -210,6 +212,7 @@ fn above_in(network: &Value, above: Above, outside: bool) -> Above
         shares: above.shares,
         outside,
         bare: names_are_bare(network, above.bare),
+        policy: above.policy,
     }
 }
 

@@ -1,4 +1,5 @@
-ghost use Rattle.std.specs.Prelude.{◌≡◌, Some, codes};
+ghost use Rattle.std.specs.Prelude.{◌≡◌, Some, codes, not};
+ghost use Rattle.kd_config.specs.Configuration.{kea_extensions};
 ghost use Rattle.serde_json.specs.Find.{get};
 ghost use Rattle.serde_json.specs.View.{items_view, view};
 ghost use Rattle.kd_json.specs.Gives.{Means};
@@ -19,6 +20,7 @@ use crate::objects::hooks::check_hooks;
 use crate::objects::host_name::server_names_are_bare;
 use crate::objects::network::subnets_of;
 use crate::objects::options::{address_among, options_of, without_server};
+use crate::objects::policy::{Policy, policy_of};
 use crate::objects::scope::scope_of_all;
 use crate::objects::subnet::Above;
 use crate::objects::times::{check_shares, shares_in, times_of};
@@ -64,6 +66,7 @@ pub(crate) fn settings_of(
     check_shares(alloc, value, at, calculated)?;
     let times = times_of(alloc, value, at, calculated)?;
     let outside = flag_at(alloc, value, at, "reservations-out-of-pool")?;
+    let policy = policy_of(alloc, value, at)?;
     let known = known_definitions(alloc, value, at)?;
     let options = options_of(alloc, value, at, scope_of_all(known.as_slice()))?;
     let server = address_of(alloc, options.as_slice(), at, server)?;
@@ -74,6 +77,7 @@ pub(crate) fn settings_of(
         shares: shares_in(value),
         outside,
         bare: server_names_are_bare(value),
+        policy,
     };
     settings_of_lists(alloc, value, at, known.as_slice(), options, above)
 }
@@ -122,11 +126,18 @@ fn settings_of_lists(
     Ok(Settings {
         server: above.server,
         times: above.times,
-        extensions: Extensions::all(),
+        extensions: extensions_by(above.policy),
         options,
         classes,
         subnets,
     })
+}
+
+// Returns the extensions of the rules in a configuration of Kea's.
+fn extensions_by(policy: Policy) -> Extensions
+    ensures { result ≡ kea_extensions policy.is_authoritative (not policy.matches_client_ids) }
+{
+    Extensions::of_kea(policy.is_authoritative, !policy.matches_client_ids)
 }
 
 // Checks that the value has the keys of `Dhcp4`, and that nothing in it is kept in another place.

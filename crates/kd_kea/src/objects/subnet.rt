@@ -18,6 +18,7 @@ use crate::objects::flags::{flag_or_default, non_empty};
 use crate::objects::host_name::names_are_bare;
 use crate::objects::options::options_of;
 use crate::objects::parts::parts_of_pools;
+use crate::objects::policy::{Policy, check_policy};
 use crate::objects::pool::PoolReader;
 use crate::objects::relay::relays_in;
 use crate::objects::reservation::ReservationReader;
@@ -50,6 +51,8 @@ pub(crate) struct Above {
     pub(crate) outside: bool,
     // Host names have no suffix, unless a subnet says otherwise.
     pub(crate) bare: bool,
+    // What holds of clients.
+    pub(crate) policy: Policy,
 }
 
 // Reads subnets.
@@ -110,6 +113,7 @@ fn check_form(
         above.shares,
         above.times,
     )?;
+    check_policy(alloc, value, at, above.policy)?;
     number_or(alloc, value, at, "id", 1, 4_294_967_294, 1)?;
     Ok(())
 }
