@@ -1,3 +1,4 @@
 pub mod Counting
 pub mod Listed
+pub mod Networked
 pub mod Together

@@ -47,14 +47,14 @@ next_most i counts here both many few together = rw together (record {
 
 -- all pools of a subnet make its use
 pub whole_subnet : (reserved : ℕ → Bool) (rows : List Row) (now : ℕ) (subnet : Subnet) (pools : List PoolUse) (counts : Counts) (used : UseOfSubnet) (i : ℕ)
-    → used ≡ record { prefix = subnet.prefix; pools = pools; counts = counts }
+    → used ≡ record { prefix = subnet.prefix; network = subnet.network; pools = pools; counts = counts }
     → pools ≡ map (pool_use reserved rows now) (take i subnet.pools) → counts ≡ sums_of pools → length subnet.pools ≤ i
     → used ≡ subnet_use reserved rows now subnet
 whole_subnet reserved rows now subnet pools counts used i is each sums past =
     let all : pools ≡ map (pool_use reserved rows now) subnet.pools = each ∙ ap (map (pool_use reserved rows now)) (take_all i subnet.pools past) in
     let together : counts ≡ sums_of (map (pool_use reserved rows now) subnet.pools) = sums ∙ ap sums_of all in
-    let same : record { prefix = subnet.prefix; pools = pools; counts = counts } ≡ subnet_use reserved rows now subnet =
-    λ j. record { prefix = subnet.prefix; pools = all j; counts = together j } in
+    let same : record { prefix = subnet.prefix; network = subnet.network; pools = pools; counts = counts } ≡ subnet_use reserved rows now subnet =
+    λ j. record { prefix = subnet.prefix; network = subnet.network; pools = all j; counts = together j } in
     is ∙ same
 
 -- the uses of all subnets, given a list of the reserved addresses

@@ -5,10 +5,11 @@ use Rattle.std.specs.List.{flat_map}
 use Rattle.kd_config.specs.declared.prefix.Prefix.{Prefix}
 use Rattle.kd_config.specs.declared.range.Range.{Range}
 use Rattle.kd_text.specs.Text.{address_text, prefix_text}
-use Rattle.kd_pools.specs.Uses.{UseOfSubnet}
+use Rattle.kd_pools.specs.Uses.{AllUses, UseOfSubnet}
 use Rattle.kd_pools.specs.declared.counts.Counts.{Counts}
 use Rattle.kd_pools.specs.declared.metrics.Metric.{Metric}
 use Rattle.kd_pools.specs.declared.metrics.Metric.TheVariants as metrics
+use Rattle.kd_pools.specs.declared.uses.NetworkUse.{NetworkUse}
 use Rattle.kd_pools.specs.declared.uses.PoolUse.{PoolUse}
 
 -- a range: its first address, a dash, its last
@@ -39,9 +40,15 @@ subnet_line subnet =
 unfoldable pub subnet_lines : UseOfSubnet → List ℕ
 subnet_lines subnet = flat_map (pool_line subnet.prefix) subnet.pools ++ subnet_line subnet
 
--- the lines of subnets, one after another
-abbrev pub lines_text : List UseOfSubnet → List ℕ
-lines_text subnets = flat_map subnet_lines subnets
+-- the line of a shared network, with its line feed
+unfoldable pub network_line : NetworkUse → List ℕ
+network_line network =
+    codes "network " ++ prefix_text network.prefix.address network.prefix.length
+    ++ counts_text network.counts ++ codes "\n"
+
+-- the lines of subnets, one after another, and then those of shared networks
+abbrev pub lines_text : AllUses → List ℕ
+lines_text uses = flat_map subnet_lines uses.subnets ++ flat_map network_line uses.networks
 
 -- the name of a metric
 abbrev pub metric_name : Metric → List ℕ

@@ -1,14 +1,15 @@
 -- Helpers of private contracts only: addresses in a list, the counts of one address, and sums of
 -- counts.
-use Rattle.std.specs.Prelude.{ℕ, ◌+◌, ◌<◌, ◌≤◌, Bool, not, ◌&&◌, ◌||◌, ◌==◌, is_none, List, length, map, Option, slice_index}
+use Rattle.std.specs.Prelude.{ℕ, ◌+◌, ◌<◌, ◌≤◌, Bool, not, ◌&&◌, ◌||◌, ◌==◌, is_none, List, length, map, Option, slice_index, if◌then◌else◌}
 use Rattle.std.specs.Int.{from_bool}
-use Rattle.std.specs.List.{flat_map, list_any}
+use Rattle.std.specs.List.{AllByRecursion, flat_map, list_any}
 use Rattle.kd_config.specs.declared.subnet.Subnet.{Subnet}
 use Rattle.kd_lease.specs.Choice.{has_such, live_row}
 use Rattle.kd_lease.specs.Kept.{bound_state}
 use Rattle.kd_lease.specs.Rules.{offered_state}
 use Rattle.kd_rows.specs.declared.row.Row.{Row}
 use Rattle.kd_pools.specs.Counts.{declined_state, live_in}
+use Rattle.kd_pools.specs.Uses.{UseOfSubnet}
 use Rattle.kd_pools.specs.declared.counts.Counts.{Counts}
 
 -- an address is in a list
@@ -78,6 +79,11 @@ both_counts a b =
       free = a.free + b.free;
     }
 
+-- the counts of subnets of a network, and of one more if it is in the network
+abbrev pub both_within : ℕ → Counts → UseOfSubnet → Counts
+both_within network counts u =
+    if u.network == network then both_counts counts u.counts else counts
+
 -- each number is at most this
 pub record IsAtMost (most : ℕ) (counts : Counts) : Type 0 where
   pub addresses : counts.addresses ≤ most
@@ -88,3 +94,12 @@ pub record IsAtMost (most : ℕ) (counts : Counts) : Type 0 where
   pub ended : counts.ended ≤ most
   pub unused : counts.unused ≤ most
   pub free : counts.free ≤ most
+
+-- the counts of a subnet are those of at most 64 pools of 65,536 addresses
+abbrev pub IsOneSubnet : UseOfSubnet → Type 0
+IsOneSubnet u = IsAtMost 4194304 u.counts
+
+-- uses of at most 256 subnets
+pub record AreSubnetUses (uses : List UseOfSubnet) : Type 0 where
+  pub few : length uses ≤ 256
+  pub each : AllByRecursion IsOneSubnet uses

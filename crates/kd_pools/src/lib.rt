@@ -1,6 +1,6 @@
 //! Counts how full the pools of a configuration are, and prints the counts.
 //!
-//! What this layer promises to the one above: the counts of each pool and of each subnet are those
+//! What this layer promises to the one above: the counts of each pool, of each subnet and of each shared network are those
 //! of its addresses by the lease rules (`specs/Counts.antt`, `specs/Uses.antt`); an address counts
 //! as free if and only if a new client that asks for it is offered it (`specs/Laws.antt`); the
 //! printed lines and metrics are those of `specs/Printed.antt`, byte for byte.
@@ -18,4 +18,4 @@ mod walking;
 pub use counts::Counts;
 pub use lines::use_lines;
 pub use metrics::use_metrics;
-pub use uses::{PoolUse, SubnetUse, uses_of};
+pub use uses::{NetworkUse, PoolUse, SubnetUse, Uses, uses_of};

@@ -1,8 +1,10 @@
-ghost use Rattle.std.specs.Prelude.{◌≡◌, IfOk};
+ghost use Rattle.std.specs.Prelude.{◌≡◌, ◌==◌, IfOk};
+ghost use Rattle.std.specs.List.{find};
+ghost use Rattle.std.specs.Option.{option_copied};
 ghost use Rattle.std.specs.List.Sorted.{IsNonDecreasing};
 ghost use Rattle.kd_config.specs.Sound.{IsSubnet};
-ghost use Rattle.kd_pools.specs.Uses.{subnet_use, subnet_uses};
-ghost use Rattle.kd_pools.specs.Walking.{is_listed};
+ghost use Rattle.kd_pools.specs.Uses.{all_uses, greatest_network, network_use, network_uses, prefix_in_use, subnet_use, subnet_uses, sums_within};
+ghost use Rattle.kd_pools.specs.Walking.{AreSubnetUses, IsAtMost, IsOneSubnet, both_within, is_listed};
 
 use crate::counts::Counts;
 use crate::reserved::reserved_addresses;
@@ -26,6 +28,8 @@ pub struct PoolUse {
 pub struct SubnetUse {
     /// The prefix of the subnet.
     pub prefix: Prefix,
+    /// The number of its shared network, from 1; 0 if it is in none.
+    pub network: u32,
     /// Its pools, in the order in which they are written.
     pub pools: Vec<PoolUse>,
     /// The sums of the counts of the pools.
@@ -37,22 +41,63 @@ impl Model for SubnetUse {
 
     ghost Value = { UseOfSubnet };
 
-    ghost view = { λ s. record { prefix = s.prefix; pools = s.pools.items; counts = s.counts } };
+    ghost view = { λ s. record {
+      prefix = s.prefix;
+      network = s.network;
+      pools = s.pools.items;
+      counts = s.counts;
+    } };
 }
 
-/// Counts how full the pools of each subnet of a configuration are at a given time, over the rows
-/// of leases; subnets and pools are in the order in which they are written.
+/// How full a shared network is.
+#[derive(Clone, Copy)]
+pub struct NetworkUse {
+    /// The prefix of its first subnet.
+    pub prefix: Prefix,
+    /// The sums of the counts of its subnets.
+    pub counts: Counts,
+}
+
+/// How full the subnets and the shared networks of a configuration are.
+#[derive(Drop)]
+pub struct Uses {
+    /// The subnets, in the order in which they are written: those of networks first.
+    pub subnets: Vec<SubnetUse>,
+    /// The shared networks, in the order in which they are written.
+    pub networks: Vec<NetworkUse>,
+}
+
+impl Model for Uses {
+    ghost use Rattle.kd_pools.specs.Uses.{AllUses};
+
+    ghost Value = { AllUses };
+
+    ghost view = { λ u. record { subnets = u.subnets.items; networks = u.networks.items } };
+}
+
+/// Counts how full the pools of each subnet and of each shared network of a configuration are at a
+/// given time, over the rows of leases; subnets and pools are in the order in which they are written.
 ///
 /// # Errors
 ///
 /// Out of memory.
-pub fn uses_of(
+pub fn uses_of(alloc: Global, config: &Config, rows: &Rows, now: u64) -> Result<Uses, AllocError>
+    ensures { IfOk result (λ uses. uses ≡ all_uses config.now rows.now.rows now) }
+{
+    let subnets = subnets_used(alloc, config, rows, now)?;
+    let networks = networks_used(alloc, subnets.as_slice())?;
+    Ok(Uses { subnets, networks })
+}
+
+// Counts how full each subnet of a configuration is at a given time.
+fn subnets_used(
     alloc: Global,
     config: &Config,
     rows: &Rows,
     now: u64,
 ) -> Result<Vec<SubnetUse>, AllocError>
-    ensures { IfOk result (λ uses. uses.items ≡ subnet_uses config.now rows.now.rows now) }
+    ensures uses { IfOk result (λ list. list.items ≡ subnet_uses config.now rows.now.rows now) }
+    ensures few { IfOk result (λ list. AreSubnetUses list.items) }
 {
     let reserved = reserved_addresses(alloc, config)?;
     let subnets = config.subnets();
@@ -73,8 +118,9 @@ fn use_of(
 ) -> Result<SubnetUse, AllocError>
     requires rising { IsNonDecreasing reserved.now }
     requires subnet { IsSubnet subnet.now }
-    ensures { IfOk result (λ found.
+    ensures same { IfOk result (λ found.
         found ≡ subnet_use (is_listed reserved.now) rows.now.rows now subnet.now) }
+    ensures few { IfOk result IsOneSubnet }
 {
     let mut pools = Vec::new(alloc);
     let mut counts = Counts::new();
@@ -88,7 +134,79 @@ fn use_of(
     }
     Ok(SubnetUse {
         prefix: subnet.prefix,
+        network: subnet.network,
         pools,
         counts,
     })
+}
+
+// Sums how full each shared network is, by the uses of all subnets.
+fn networks_used(alloc: Global, uses: &[SubnetUse]) -> Result<Vec<NetworkUse>, AllocError>
+    requires { AreSubnetUses uses.now }
+    ensures { IfOk result (λ networks. networks.items ≡ network_uses uses.now) }
+{
+    let mut networks = Vec::new(alloc);
+    for i in 0..count_networks(uses) {
+        networks.push(NetworkUse {
+            prefix: prefix_within(uses, i + 1),
+            counts: counts_within(uses, i + 1),
+        })?;
+    }
+    Ok(networks)
+}
+
+// Returns the greatest number of a network, or 0.
+fn count_networks(uses: &[SubnetUse]) -> u32
+    ensures { result ≡ greatest_network uses.now }
+{
+    let mut count = 0;
+    for subnet in uses {
+        count = subnet.network.max(count);
+    }
+    count
+}
+
+// Returns the prefix of the first subnet of the network with a number.
+fn prefix_within(uses: &[SubnetUse], network: u32) -> Prefix
+    ensures { result ≡ prefix_in_use (find (λ u. u.network == network) uses.now) }
+{
+    match first_within(uses, network) {
+        Some(subnet) => subnet.prefix,
+        None => Prefix {
+            address: 0,
+            length: 32,
+        },
+    }
+}
+
+// Returns the first subnet of the network with a number.
+fn first_within(uses: &[SubnetUse], network: u32) -> Option<&SubnetUse>
+    ensures { option_copied result ≡ find (λ u. u.network == network) uses.now }
+{
+    uses.iter().find(|subnet| subnet.network == network)
+}
+
+// Sums the counts of the subnets of the network with a number.
+fn counts_within(uses: &[SubnetUse], network: u32) -> Counts
+    requires { AreSubnetUses uses.now }
+    ensures { result ≡ sums_within network uses.now }
+{
+    let mut counts = Counts::new();
+    for subnet in uses {
+        counts = counts_with(counts, subnet, network);
+    }
+    counts
+}
+
+// Adds the counts of a subnet if it is in the network with a number.
+fn counts_with(counts: Counts, subnet: &SubnetUse, network: u32) -> Counts
+    requires many { IsAtMost 1073741824 counts }
+    requires one { IsOneSubnet subnet.now }
+    ensures { result ≡ both_within network counts subnet.now }
+{
+    if subnet.network == network {
+        counts.and(subnet.counts)
+    } else {
+        counts
+    }
 }

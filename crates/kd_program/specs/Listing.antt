@@ -7,7 +7,7 @@ use Rattle.kd_commands.specs.declared.orders.View.TheVariants as views
 use Rattle.kd_config.specs.Configuration.{Configuration}
 use Rattle.kd_listing.specs.Leases.{lease_line, leases_of_rows}
 use Rattle.kd_pools.specs.Printed.{lines_text, metrics_text}
-use Rattle.kd_pools.specs.Uses.{subnet_uses}
+use Rattle.kd_pools.specs.Uses.{all_uses, subnet_uses}
 use Rattle.kd_program.specs.Explaining.{ExplainsWord}
 use Rattle.kd_program.specs.Streams.{ShowsOrBreaks, Streams, Tells}
 use Rattle.kd_loops.specs.Faults.{serve_fault_number}
@@ -30,7 +30,7 @@ abbrev pub ShowsView : View → ℕ → Bool → Configuration → List Row → 
 ShowsView views.Leases at failed config rows status old new =
     ShowsText (flat_map lease_line (leases_of_rows at rows)) at failed status old new
 ShowsView views.Pools at failed config rows status old new =
-    ShowsText (lines_text (subnet_uses config rows (max at (latest_of rows)))) at failed status old
+    ShowsText (lines_text (all_uses config rows (max at (latest_of rows)))) at failed status old
     new
 ShowsView views.Metrics at failed config rows status old new =
     ShowsText (metrics_text (subnet_uses config rows (max at (latest_of rows)))) at failed status

@@ -2,7 +2,7 @@ ghost use Rattle.std.specs.Prelude.{◌≡◌, ◌<◌, ◌^◌, IfErr, IfOk, Ma
 ghost use Rattle.std.specs.List.{flat_map};
 ghost use Rattle.kd_listing.specs.Leases.{lease_line, leases_of_rows};
 ghost use Rattle.kd_pools.specs.Printed.{lines_text, metrics_text};
-ghost use Rattle.kd_pools.specs.Uses.{subnet_uses};
+ghost use Rattle.kd_pools.specs.Uses.{all_uses, subnet_uses};
 ghost use Rattle.kd_program.specs.Listing.{ShowsView};
 ghost use Rattle.kd_program.specs.Streams.{ShowsOrBreaks, Tells, streams, written_to};
 ghost use Rattle.kd_loops.specs.Faults.{serve_fault_number};
@@ -16,7 +16,7 @@ use kd_commands::View;
 use kd_config::Config;
 use kd_listing::lease_lines;
 use kd_loops::{ServeFault, Sink, Source};
-use kd_pools::{SubnetUse, use_lines, use_metrics, uses_of};
+use kd_pools::{Uses, use_lines, use_metrics, uses_of};
 use kd_rows::Rows;
 use kd_server::{leases_at, time_of_look};
 use std::alloc::Global;
@@ -85,7 +85,7 @@ fn text_of_leases(alloc: Global, table: &LeaseTable<'_>, at: u64) -> Result<Stri
 // Returns the lines that say how full the pools are at a time.
 fn text_of_pools(alloc: Global, table: &LeaseTable<'_>, at: u64) -> Result<String, ServeFault>
     ensures { MatchResult result
-        (λ text. string_bytes text ≡ lines_text (subnet_uses table.now.config.now
+        (λ text. string_bytes text ≡ lines_text (all_uses table.now.config.now
         table.now.rows.now.rows (max at (latest_of table.now.rows.now.rows))))
         (IsNoList table.now.failed at) }
 {
@@ -99,13 +99,14 @@ fn text_of_metrics(alloc: Global, table: &LeaseTable<'_>, at: u64) -> Result<Str
         table.now.rows.now.rows (max at (latest_of table.now.rows.now.rows))))
         (IsNoList table.now.failed at) }
 {
-    Ok(use_metrics(alloc, &uses_at(alloc, table, at)?)?)
+    let uses = uses_at(alloc, table, at)?;
+    Ok(use_metrics(alloc, uses.subnets.as_slice())?)
 }
 
 // Returns how full the pools are at a time.
-fn uses_at(alloc: Global, table: &LeaseTable<'_>, at: u64) -> Result<Vec<SubnetUse>, ServeFault>
-    ensures uses { IfOk result (λ list. list.items
-        ≡ subnet_uses table.now.config.now table.now.rows.now.rows
+fn uses_at(alloc: Global, table: &LeaseTable<'_>, at: u64) -> Result<Uses, ServeFault>
+    ensures uses { IfOk result (λ uses. uses
+        ≡ all_uses table.now.config.now table.now.rows.now.rows
         (max at (latest_of table.now.rows.now.rows))) }
     ensures works { IfOk result (λ list. (table.now.failed ≡ false) × (at < 2 ^ 40)) }
     ensures fault { IfErr result (IsNoList table.now.failed at) }

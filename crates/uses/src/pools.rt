@@ -1,6 +1,6 @@
 ghost use Rattle.std.specs.Prelude.{◌≡◌, IfOk, string_bytes};
 ghost use Rattle.kd_pools.specs.Printed.{lines_text};
-ghost use Rattle.kd_pools.specs.Uses.{subnet_uses};
+ghost use Rattle.kd_pools.specs.Uses.{all_uses};
 
 use kd_config::Config;
 use kd_pools::{use_lines, uses_of};
@@ -15,7 +15,7 @@ pub fn pools_text(
     now: u64,
 ) -> Result<String, AllocError>
     ensures { IfOk result (λ text. string_bytes text
-        ≡ lines_text (subnet_uses config.now rows.now.rows now)) }
+        ≡ lines_text (all_uses config.now rows.now.rows now)) }
 {
     let uses = uses_of(alloc, config, rows, now)?;
     use_lines(alloc, &uses)

@@ -1,7 +1,0 @@
-use Rattle.std.proofs.Common.{◌≡◌, map, take}
-use Rattle.kd_pools.specs.Uses.{subnet_use}
-use Rattle.kd_pools.specs.Walking.{is_listed}
-use Rattle.kd_pools.proofs.uses.uses_of.Given as goal
-
-abbrev pub invariant-loop-subnet : goal.invariant-loop-subnet
-invariant-loop-subnet l = l.list.items ≡ map (subnet_use (is_listed l.reserved.items) l.rows.rows l.now) (take l.subnet-index l.config.subnets)
