@@ -7,7 +7,7 @@ use Rattle.kd_config.specs.Configuration.{Configuration}
 use Rattle.kd_config.specs.Sound.{IsSound}
 use Rattle.kd_lease.specs.Choice.{reserved_anywhere}
 use Rattle.kd_rows.specs.declared.row.Row.{Row}
-use Rattle.kd_pools.specs.Uses.{UseOfSubnet, number_within, subnet_use, subnet_uses, sums_within}
+use Rattle.kd_pools.specs.Uses.{UseOfSubnet, count_within, subnet_use, subnet_uses, sums_within}
 use Rattle.kd_pools.specs.Walking.{IsAtMost, IsOneSubnet, both_counts, both_within}
 use Rattle.kd_pools.specs.declared.counts.Counts.{Counts}
 use Rattle.kd_pools.proofs.Counting.{at_most, same_counts}
@@ -41,10 +41,10 @@ joined false x s c a r bo o d e u f =
 push_within : (network : ℕ) (old : List UseOfSubnet) (u : UseOfSubnet) → sums_within network (old ++ u ∷ []) ≡ both_within network (sums_within network old) u
 push_within network old u =
     joined (u.network == network) (sums_within network (old ++ u ∷ [])) (sums_within network old) u.counts
-    (sum_by_push (number_within (λ c. c.addresses) network) old u) (sum_by_push (number_within (λ c. c.reserved) network) old u)
-    (sum_by_push (number_within (λ c. c.bound) network) old u) (sum_by_push (number_within (λ c. c.offered) network) old u)
-    (sum_by_push (number_within (λ c. c.declined) network) old u) (sum_by_push (number_within (λ c. c.ended) network) old u)
-    (sum_by_push (number_within (λ c. c.unused) network) old u) (sum_by_push (number_within (λ c. c.free) network) old u)
+    (sum_by_push (count_within (λ c. c.addresses) network) old u) (sum_by_push (count_within (λ c. c.reserved) network) old u)
+    (sum_by_push (count_within (λ c. c.bound) network) old u) (sum_by_push (count_within (λ c. c.offered) network) old u)
+    (sum_by_push (count_within (λ c. c.declined) network) old u) (sum_by_push (count_within (λ c. c.ended) network) old u)
+    (sum_by_push (count_within (λ c. c.unused) network) old u) (sum_by_push (count_within (λ c. c.free) network) old u)
 
 pub next_within : (network : ℕ) (uses : List UseOfSubnet) (i : ℕ) (u : UseOfSubnet) (counts both : Counts) → i < length uses → u ≡ get_or uses i u
     → counts ≡ sums_within network (take i uses) → both ≡ both_within network counts u → both ≡ sums_within network (take (i + 1) uses)

@@ -55,12 +55,12 @@ abbrev pub subnet_uses : Configuration → List Row → ℕ → List UseOfSubnet
 subnet_uses config rows now = map (subnet_use (reserved_anywhere config) rows now) config.subnets
 
 -- a number of a subnet if it is in the network with this number, else 0
-abbrev pub number_within : (Counts → ℕ) → ℕ → UseOfSubnet → ℕ
-number_within number network u = if u.network == network then number u.counts else 0
+abbrev pub count_within : (Counts → ℕ) → ℕ → UseOfSubnet → ℕ
+count_within number network u = if u.network == network then number u.counts else 0
 
 -- the sum of one number of the subnets of a network
 abbrev pub sum_within : (Counts → ℕ) → ℕ → List UseOfSubnet → ℕ
-sum_within number network uses = sum_by (number_within number network) uses
+sum_within number network uses = sum_by (count_within number network) uses
 
 -- the sums of the counts of the subnets of a network
 abbrev pub sums_within : ℕ → List UseOfSubnet → Counts
