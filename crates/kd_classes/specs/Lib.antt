@@ -1,2 +1,3 @@
 pub mod Order
 pub mod HeldSet
+pub mod Boot

@@ -1,3 +1,4 @@
+use crate::boot::Boot;
 use crate::option_list::OptionList;
 use kd_token::Verified;
 use kd_wire::Bytes;
@@ -11,4 +12,6 @@ pub struct ClassDef {
     pub test: Option<Verified>,
     /// The options that the class gives to the replies to its members.
     pub options: OptionList,
+    /// What the class gives to the boot fields of these replies.
+    pub boot: Boot,
 }

@@ -9,6 +9,7 @@
 //! most one first fault, and that every message has one list of names.
 #![tactic(auto)]
 
+mod boot;
 mod classes;
 mod definition;
 mod fault;
@@ -16,6 +17,7 @@ pub mod laws;
 mod option_list;
 mod order;
 
+pub use boot::{Boot, BootList};
 pub use classes::Classes;
 pub use definition::ClassDef;
 pub use fault::ClassFault;

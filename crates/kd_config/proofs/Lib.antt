@@ -6,3 +6,4 @@ pub mod PoolPlaces
 pub mod ReservationPlaces
 pub mod ReservedAddresses
 pub mod AcceptedTests
+pub mod Unbooted

@@ -33,6 +33,7 @@ subnet = record {
   reservations = tt;
   options = no_options;
   shared = no_options;
+  boot = record { next_server = tt; server_name = tt; file_name = tt };
 }
 
 together : may_stand builtin_config.subnets ≡ true

@@ -1,5 +1,6 @@
 -- A server's configuration, and the built-in one.
 use Rattle.std.specs.Prelude.{ℕ, Bool, true, false, List, [], ◌∷◌, None}
+use Rattle.kd_classes.specs.Boot.{no_boot}
 use Rattle.kd_classes.specs.declared.definition.ClassDef.{ClassDef}
 use Rattle.kd_classes.specs.declared.option_list.OptionData.{OptionData}
 use Rattle.kd_config.specs.declared.extensions.Extensions.{Extensions}
@@ -58,6 +59,7 @@ subnet_built_in = record {
   options = [];
   network = 0;
   shared = [];
+  boot = no_boot;
 }
 
 -- the built-in configuration: the server is 192.0.2.1

@@ -7,3 +7,4 @@ pub mod Configuration
 pub mod Sound
 pub mod Laws
 pub mod Networks
+pub mod Booted

@@ -3,6 +3,7 @@
 use Rattle.std.specs.Prelude.{ℕ, ◌+◌, ◌-◌, Bool, ◌&&◌, ◌==◌, if◌then◌else◌, List, [], ◌∷◌, map, max, Option, Some, None, slice_get}
 use Rattle.std.specs.List.{find, flat_map, list_any, range_with_len}
 use Rattle.std.specs.Option.{option_or}
+use Rattle.kd_classes.specs.Boot.{no_boot}
 use Rattle.kd_config.specs.Address.{has_address}
 use Rattle.kd_config.specs.declared.pool.Pool.{Pool}
 use Rattle.kd_config.specs.declared.prefix.Prefix.{Prefix}
@@ -60,6 +61,7 @@ network_of subnets number =
       options = [];
       network = number;
       shared = [];
+      boot = no_boot;
     }
 
 -- the greatest number of a network, or 0

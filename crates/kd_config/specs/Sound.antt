@@ -1,9 +1,10 @@
 -- What every configuration obeys (our own format): each value is in its range, each list is within
 -- its limit, and the rules over the whole hold.
-use Rattle.std.specs.Prelude.{◌≡◌, ℕ, ◌+◌, ◌-◌, ◌^◌, ◌<◌, ◌≤◌, nat_eq, true, false, List, [], ◌∷◌, length}
+use Rattle.std.specs.Prelude.{◌≡◌, ℕ, ◌+◌, ◌-◌, ◌^◌, ◌<◌, ◌≤◌, nat_eq, true, false, List, [], ◌∷◌, length, IfSome}
 use Rattle.std.specs.List.{AllByRecursion, list_any}
 use Rattle.kd_classes.specs.HeldSet.{IsAccepted}
 use Rattle.kd_classes.specs.Order.{AreInOrder}
+use Rattle.kd_classes.specs.declared.boot.Boot.{Boot}
 use Rattle.kd_classes.specs.declared.definition.ClassDef.{ClassDef}
 use Rattle.kd_classes.specs.declared.option_list.OptionData.{OptionData}
 use Rattle.kd_config.specs.Address.{network_address, prefix_size}
@@ -18,6 +19,7 @@ use Rattle.kd_config.specs.declared.reservation.Identity.TheVariants.{Hardware, 
 use Rattle.kd_config.specs.declared.reservation.Reservation.{Reservation}
 use Rattle.kd_config.specs.declared.subnet.Subnet.{Subnet}
 use Rattle.kd_config.specs.declared.times.Times.{Times}
+use Rattle.kd_options.specs.Laws.{IsField}
 
 -- a number in the range from `least` to `most`
 pub record IsFrom (least most number : ℕ) : Type 0 where
@@ -41,6 +43,12 @@ pub record AreOptions (options : List OptionData) : Type 0 where
   pub each : AllByRecursion IsOption options
   pub own : HaveOwnCodes options
 
+-- what may be given to the boot fields of a reply: a number and two fields of bytes of their sizes
+pub record IsBoot (boot : Boot) : Type 0 where
+  pub next_server : IfSome boot.next_server (λ address. address < 2 ^ 32)
+  pub server_name : IfSome boot.server_name (IsField 64)
+  pub file_name : IfSome boot.file_name (IsField 128)
+
 -- the longest lease time, in seconds
 abbrev pub longest_lease : ℕ
 longest_lease = 2147483647
@@ -59,6 +67,7 @@ pub record IsClass (def : ClassDef) : Type 0 where
   pub name : IsFrom 1 255 (length def.name)
   pub test : IsAccepted def
   pub options : AreOptions def.options
+  pub boot : IsBoot def.boot
 
 -- a prefix: its address has no bits set after its length, and its addresses end within 32 bits
 pub record IsPrefix (prefix : Prefix) : Type 0 where
@@ -85,6 +94,7 @@ IsIdentity (ClientId bytes) = IsFrom 1 255 (length bytes)
 pub record IsReservation (reservation : Reservation) : Type 0 where
   pub identity : IsIdentity reservation.identity
   pub options : AreOptions reservation.options
+  pub boots : AllByRecursion IsBoot reservation.boots
 
 -- a subnet
 pub record IsSubnet (subnet : Subnet) : Type 0 where
@@ -96,6 +106,7 @@ pub record IsSubnet (subnet : Subnet) : Type 0 where
   pub reservations : AllByRecursion IsReservation subnet.reservations
   pub options : AreOptions subnet.options
   pub shared : AreOptions subnet.shared
+  pub boot : IsBoot subnet.boot
 
 -- subnets that are accepted together
 pub record AreSubnets (subnets : List Subnet) : Type 0 where

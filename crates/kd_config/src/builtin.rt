@@ -1,5 +1,5 @@
 ghost use Rattle.std.specs.Prelude.{◌≡◌, [], IfOk};
-ghost use Rattle.kd_config.specs.Configuration.{builtin_config, subnet_built_in, times_built_in};
+ghost use Rattle.kd_config.specs.Configuration.{builtin_config, builtin_pool, subnet_built_in, times_built_in};
 
 use crate::config::Config;
 use crate::extensions::Extensions;
@@ -9,7 +9,7 @@ use crate::range::Range;
 use crate::reservations::Reservations;
 use crate::subnet::Subnet;
 use crate::times::Times;
-use kd_classes::{Classes, OptionList};
+use kd_classes::{Boot, Classes, OptionList};
 use kd_wire::Entries;
 use std::alloc::{AllocError, Global};
 
@@ -56,14 +56,7 @@ fn builtin_subnet(alloc: Global) -> Result<Subnet, AllocError>
     ensures { IfOk result (λ subnet. subnet ≡ subnet_built_in) }
 {
     let mut pools = Vec::new(alloc);
-    pools.push(Pool {
-        range: Range {
-            first: 0xc000_020a,
-            last: 0xc000_020b,
-        },
-        class: None,
-        options: OptionList::own(Vec::new(alloc)),
-    })?;
+    pools.push(only_pool(alloc))?;
     Ok(Subnet {
         prefix: Prefix {
             address: 0xc000_0200,
@@ -76,7 +69,22 @@ fn builtin_subnet(alloc: Global) -> Result<Subnet, AllocError>
         options: OptionList::own(Vec::new(alloc)),
         network: 0,
         shared: OptionList::own(Vec::new(alloc)),
+        boot: Boot::none(),
     })
+}
+
+// Makes the pool of the built-in configuration.
+fn only_pool(alloc: Global) -> Pool
+    ensures { result ≡ builtin_pool }
+{
+    Pool {
+        range: Range {
+            first: 0xc000_020a,
+            last: 0xc000_020b,
+        },
+        class: None,
+        options: OptionList::own(Vec::new(alloc)),
+    }
 }
 
 // Returns an empty list of classes.

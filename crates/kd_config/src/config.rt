@@ -1,5 +1,7 @@
 ghost use Rattle.std.specs.Prelude.{◌≡◌, IfOk};
 ghost use Rattle.std.specs.Option.{option_copied};
+ghost use Rattle.std.specs.List.{list_any};
+ghost use Rattle.kd_config.specs.Booted.{gives_boot};
 ghost use Rattle.kd_config.specs.Networks.{covers, home_of, network_at, part_holding};
 ghost use Rattle.kd_config.specs.Sound.{IsSound};
 
@@ -7,7 +9,7 @@ use crate::extensions::Extensions;
 use crate::networks::{has_in, networks_of, part_of};
 use crate::subnet::Subnet;
 use crate::times::Times;
-use kd_classes::{Classes, OptionData, OptionList};
+use kd_classes::{Boot, Classes, OptionData, OptionList};
 use kd_wire::Entries;
 use std::alloc::{AllocError, Global};
 use std::marker::Model;
@@ -24,10 +26,14 @@ pub struct Config {
     subnets: Entries<Subnet>,
     // Each shared network as one subnet, by its number.
     networks: Vec<Subnet>,
+    // Whether a subnet gives anything to boot fields.
+    boots: bool,
 }
 
 impl Model for Config {
     ghost use Rattle.std.specs.Prelude.{◌≡◌};
+    ghost use Rattle.std.specs.List.{list_any};
+    ghost use Rattle.kd_config.specs.Booted.{gives_boot};
     ghost use Rattle.kd_config.specs.Configuration.{Configuration};
     ghost use Rattle.kd_config.specs.Networks.{networks_in};
     ghost use Rattle.kd_config.specs.Sound.{IsSound};
@@ -50,7 +56,8 @@ impl Model for Config {
       options = c.options;
       classes = c.classes;
       subnets = c.subnets;
-    }) × (c.networks.items ≡ networks_in c.subnets) };
+    }) × (c.networks.items ≡ networks_in c.subnets)
+        × (c.boots ≡ list_any gives_boot c.subnets) };
 }
 
 impl Config {
@@ -86,6 +93,7 @@ impl Config {
         }) }
     {
         let networks = networks_of(alloc, subnets.as_slice())?;
+        let boots = has_boot(subnets.as_slice());
         Ok(Config {
             server,
             times,
@@ -94,6 +102,7 @@ impl Config {
             classes,
             subnets,
             networks,
+            boots,
         })
     }
 
@@ -192,4 +201,24 @@ impl Config {
             None => subnet,
         }
     }
+
+    /// Returns what the subnet that has an address, in host order, gives to boot fields. It is not
+    /// searched in a network if no subnet gives anything.
+    #[tactic(auto, using(crate::proofs::Unbooted::part_unbooted))]
+    pub fn boot_at(&self, subnet: &Subnet, address: u32) -> Boot
+        ensures { result ≡ (part_holding self.now.subnets subnet.now address).boot }
+    {
+        if self.boots || !subnet.boot.is_none() {
+            self.member_with(subnet, address).boot
+        } else {
+            Boot::none()
+        }
+    }
+}
+
+// Reports whether one of these subnets gives anything to boot fields.
+fn has_boot(subnets: &[Subnet]) -> bool
+    ensures { result ≡ list_any gives_boot subnets.now }
+{
+    subnets.iter().any(|subnet| !subnet.boot.is_none())
 }

@@ -1,7 +1,7 @@
 ghost use Rattle.std.specs.Prelude.{◌≡◌, IfOk};
 
 use crate::reservation::{Identity, Reservation};
-use kd_classes::{OptionData, OptionList};
+use kd_classes::{Boot, BootList, OptionData, OptionList};
 use kd_wire::Bytes;
 use std::alloc::{AllocError, Global};
 
@@ -49,7 +49,19 @@ pub(crate) fn reservation_copied(
         identity: identity_copied(alloc, &reservation.identity)?,
         address: reservation.address,
         options: options_copied(alloc, reservation.options.as_slice())?,
+        boots: boots_copied(alloc, reservation.boots.as_slice())?,
     })
+}
+
+// Copies what is given to boot fields.
+fn boots_copied(alloc: Global, boots: &[Boot]) -> Result<BootList, AllocError>
+    ensures { IfOk result (λ list. list ≡ boots.now) }
+{
+    let mut list = Vec::new(alloc);
+    for boot in boots {
+        list.push(*boot)?;
+    }
+    Ok(BootList::own(list))
 }
 
 // Copies the client of a reservation.

@@ -9,7 +9,7 @@ use crate::prefix::Prefix;
 use crate::reservation::Reservation;
 use crate::reservations::Reservations;
 use crate::subnet::Subnet;
-use kd_classes::OptionList;
+use kd_classes::{Boot, OptionList};
 use kd_wire::{Bytes, Entries};
 use std::alloc::{AllocError, Global};
 
@@ -49,6 +49,7 @@ fn joined(alloc: Global, subnets: &[Subnet], number: u32) -> Result<Subnet, Allo
         options: OptionList::own(Vec::new(alloc)),
         network: number,
         shared: OptionList::own(Vec::new(alloc)),
+        boot: Boot::none(),
     })
 }
 

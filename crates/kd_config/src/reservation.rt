@@ -1,4 +1,4 @@
-use kd_classes::OptionList;
+use kd_classes::{BootList, OptionList};
 use kd_wire::Bytes;
 
 /// The client that a reservation is for.
@@ -19,4 +19,6 @@ pub struct Reservation {
     pub address: u32,
     /// The options of the replies to the client, whatever address they assign.
     pub options: OptionList,
+    /// What the reservation gives to the boot fields of these replies, at most one value.
+    pub boots: BootList,
 }

@@ -1,7 +1,7 @@
 use crate::pool::Pool;
 use crate::prefix::Prefix;
 use crate::reservations::Reservations;
-use kd_classes::OptionList;
+use kd_classes::{Boot, OptionList};
 use kd_wire::{Bytes, Entries};
 
 /// A subnet that the server serves.
@@ -24,4 +24,7 @@ pub struct Subnet {
     pub network: u32,
     /// The options of that network.
     pub shared: OptionList,
+    /// What the subnet gives to the boot fields of the replies, with what its network and the whole
+    /// server do.
+    pub boot: Boot,
 }

@@ -1,4 +1,5 @@
 pub mod Account
+pub mod BootLines
 pub mod CheckLines
 pub mod Explaining
 pub mod FoundLines

@@ -1,5 +1,5 @@
--- The lines of the outcome of a message: how it ends, the options of its reply, and the row it
--- sets.
+-- The lines of the outcome of a message: how it ends, the boot fields and the options of its reply,
+-- and the row it sets.
 use Rattle.std.specs.Prelude.{◌≡◌, ℕ, max, Bool, true, false, ◌==◌, ◌||◌, if◌then◌else◌, List, [], ◌∷◌, ◌++◌, Option, Some, None, Result, Ok, Err, codes, decimal, slice_get, option_copied}
 use Rattle.kd_classes.specs.declared.definition.ClassDef.{ClassDef}
 use Rattle.kd_config.specs.Configuration.{Configuration}
@@ -16,8 +16,12 @@ use Rattle.kd_options.specs.Reply.{reply_text}
 use Rattle.kd_options.specs.declared.item.Item.{Item}
 use Rattle.kd_rows.specs.declared.row.Row.{Row}
 use Rattle.kd_text.specs.Text.{address_text, bytes_text}
+use Rattle.kd_wire.specs.declared.header.Header.{Header}
+use Rattle.kd_explain.specs.BootLines.{IsBootOrigin, field_line}
 use Rattle.kd_explain.specs.Origins.{IsOrigin}
 use Rattle.kd_explain.specs.Words.{name_text}
+use Rattle.kd_explain.specs.declared.boot_origins.BootField.{BootField}
+use Rattle.kd_explain.specs.declared.boot_origins.BootField.TheVariants as fields
 use Rattle.kd_explain.specs.declared.explaining.Explanation.{Explanation}
 use Rattle.kd_explain.specs.declared.origins.Origin.{Origin}
 use Rattle.kd_explain.specs.declared.origins.Origin.TheVariants as origins
@@ -53,7 +57,7 @@ abbrev pub origin_class : Option ClassDef → List ℕ
 origin_class None = codes "-"
 origin_class (Some class) = name_text class.name
 
--- where a configured option comes from
+-- where a configured option, or the value of a boot field, comes from
 abbrev pub origin_word : List ClassDef → Option Origin → List ℕ
 origin_word classes None = codes "-"
 origin_word classes (Some origins.Reservation) = codes "reservation"
@@ -107,8 +111,8 @@ AreOptionLines Line (item ∷ items) text =
     (line : List ℕ) × (rest : List ℕ) × Line item line × AreOptionLines Line items rest
     × (text ≡ line ++ rest)
 
--- the address that the options of a reply are chosen for: the one it gives, or the one its client
--- has
+-- the address that the options and the boot fields of a reply are chosen for: the one it gives, or
+-- the one its client has
 abbrev pub options_address : PlanKind → ℕ → ℕ → ℕ
 options_address kinds.InformAck yiaddr ciaddr = ciaddr
 options_address other yiaddr ciaddr = yiaddr
@@ -126,9 +130,56 @@ pub record AreOptionsOf (config : Configuration) (m : Seen) (e : Explanation) (p
       (IsSentLine config m e (options_address plan.kind plan.yiaddr m.header.ciaddr) reply)
       plan.reply.items text
 
--- the lines of how a message ends: the reply and its options, or why there is none
+-- ---- the boot fields of a reply
+
+-- the line of a boot field in a header; none if nothing gives it a value
+abbrev pub boot_line : List ClassDef → Header → BootField → Option Origin → List ℕ
+boot_line classes h field None = []
+boot_line classes h field (Some origin) = field_line field h (origin_word classes (Some origin))
+
+-- the line of a boot field of a planned reply to a message with these class names that a subnet
+-- serves
+abbrev pub IsBootLine : Configuration → Subnet → List (List ℕ) → Seen → Plan → BootField → List ℕ
+    → Type 0
+IsBootLine config s names m plan field line =
+    (origin : Option Origin)
+    × IsBootOrigin config s names m (options_address plan.kind plan.yiaddr m.header.ciaddr) field
+    origin
+    × (line ≡ boot_line config.classes plan.reply.header field origin)
+
+-- the lines of all boot fields of that reply, in order
+pub record AreFieldLines (config : Configuration) (s : Subnet) (names : List (List ℕ)) (m : Seen)
+    (plan : Plan) (text : List ℕ) : Type 0 where
+  pub siaddr : List ℕ
+  pub siaddr_line : IsBootLine config s names m plan fields.Siaddr siaddr
+  pub sname : List ℕ
+  pub sname_line : IsBootLine config s names m plan fields.Sname sname
+  pub file : List ℕ
+  pub file_line : IsBootLine config s names m plan fields.File file
+  pub is : text ≡ siaddr ++ sname ++ file
+
+-- these lines, if a subnet serves the message; there are none if no subnet does
+abbrev pub AreServedLines : Configuration → Option Subnet → List (List ℕ) → Seen → Plan → List ℕ
+    → Type 0
+AreServedLines config None names m plan text = text ≡ []
+AreServedLines config (Some s) names m plan text = AreFieldLines config s names m plan text
+
+-- these lines for a reply of a kind; a NAK has none
+abbrev pub AreLinesOfKind : PlanKind → Configuration → Seen → Explanation → Plan → List ℕ → Type 0
+AreLinesOfKind kinds.Nak config m e plan text = text ≡ []
+AreLinesOfKind other config m e plan text =
+    AreServedLines config (option_copied e.subnet) e.names m plan text
+
+-- the lines of the boot fields of a planned reply to a message
+abbrev pub AreBootLines : Configuration → Seen → Explanation → Plan → List ℕ → Type 0
+AreBootLines config m e plan text = AreLinesOfKind plan.kind config m e plan text
+
+-- ---- the end
+
+-- the lines of how a message ends: the reply, its boot fields and its options, or why there is none
 abbrev pub IsEndText : Configuration → Seen → Explanation → Result Plan Reason → List ℕ → Type 0
 IsEndText config m e (Ok plan) text =
-    (options : List ℕ) × AreOptionsOf config m e plan options
-    × (text ≡ ends_line plan.kind plan.yiaddr ++ options)
+    (boot : List ℕ) × (options : List ℕ) × AreBootLines config m e plan boot
+    × AreOptionsOf config m e plan options
+    × (text ≡ ends_line plan.kind plan.yiaddr ++ boot ++ options)
 IsEndText config m e (Err reason) text = text ≡ silence_line reason

@@ -3,11 +3,14 @@
 //! What this layer promises to the one above: the parts of an explanation are those of the rules
 //! (`specs/Explaining.antt`): the value of each class test and its steps, the subnet, the
 //! reservation, the first address of each rank, and the decision. `specs/CheckLines.antt` says
-//! which checks it tells, and `specs/Origins.antt` where each option comes from. The text is these
-//! parts, line by line (`specs/Account.antt`).
+//! which checks it tells, `specs/Origins.antt` where each option comes from, and
+//! `specs/BootLines.antt` where the value of each boot field does. The text is these parts, line by
+//! line (`specs/Account.antt`).
 #![tactic(auto)]
 
 mod account;
+mod boot_lines;
+mod boot_origins;
 mod check_lines;
 mod class_lines;
 mod classes;
@@ -24,6 +27,7 @@ mod text;
 mod words;
 
 pub use account::account_text;
+pub use boot_origins::{BootField, boot_origin_of};
 pub use classes::{Trace, trace_classes};
 pub use explaining::{Explanation, explain};
 pub use origins::{Origin, origin_of};

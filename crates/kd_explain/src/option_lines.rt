@@ -65,9 +65,9 @@ fn bytes_of(alloc: Global, plan: &Plan) -> Result<Vec<u8>, AllocError>
     }
 }
 
-// Returns the address that the options of a reply are chosen for: the one that it gives, or the one
-// that its client has.
-fn address_in(plan: &Plan, message: &Message<'_>) -> u32
+// Returns the address that the options and the boot fields of a reply are chosen for: the one that
+// it gives, or the one that its client has.
+pub(crate) fn address_in(plan: &Plan, message: &Message<'_>) -> u32
     ensures { result
         ≡ options_address plan.now.kind plan.now.yiaddr message.now.header.ciaddr }
 {
@@ -189,7 +189,8 @@ fn put_given(
     put_origin(scene.alloc, out, scene.config.classes(), origin)
 }
 
-fn put_origin(
+// Prints where a configured option, or the value of a boot field, comes from.
+pub(crate) fn put_origin(
     alloc: Global,
     out: &mut String,
     classes: &Classes,

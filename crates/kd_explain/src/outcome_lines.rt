@@ -1,7 +1,8 @@
 ghost use Rattle.std.specs.Prelude.{◌≡◌, ◌++◌, ℕ, List, OnOk, codes, string_bytes};
 ghost use Rattle.kd_text.specs.Text.{address_text};
-ghost use Rattle.kd_explain.specs.OutcomeLines.{AreOptionsOf, IsEndText, silence_line, ends_line, row_word, set_line};
+ghost use Rattle.kd_explain.specs.OutcomeLines.{AreBootLines, AreOptionsOf, IsEndText, silence_line, ends_line, row_word, set_line};
 
+use crate::boot_lines::put_boot_fields;
 use crate::option_lines::put_options;
 use crate::text::Scene;
 use kd_event::Reason;
@@ -12,7 +13,7 @@ use kd_text::put_address;
 use std::alloc::{AllocError, Global};
 use std::fmt::Write;
 
-// Prints how a message ends: the reply and its options, or why there is none.
+// Prints how a message ends: the reply, its boot fields and its options, or why there is none.
 pub(crate) fn put_end(out: &mut String, scene: &Scene<'_>) -> Result<(), AllocError>
     ensures { OnOk result ((text : List ℕ)
         × IsEndText scene.now.config.now scene.now.message.now scene.now.explanation.now
@@ -33,13 +34,16 @@ fn put_reason(out: &mut String, reason: Reason) -> Result<(), AllocError>
 }
 
 fn put_plan(out: &mut String, scene: &Scene<'_>, plan: &Plan) -> Result<(), AllocError>
-    ensures { OnOk result ((options : List ℕ)
+    ensures { OnOk result ((boot : List ℕ) × (options : List ℕ)
+        × AreBootLines scene.now.config.now scene.now.message.now scene.now.explanation.now plan.now
+        boot
         × AreOptionsOf scene.now.config.now scene.now.message.now scene.now.explanation.now plan.now
         options
         × (string_bytes out.new ≡ string_bytes out.old
-        ++ (ends_line plan.now.kind plan.now.yiaddr ++ options))) }
+        ++ (ends_line plan.now.kind plan.now.yiaddr ++ boot ++ options))) }
 {
     put_reply(out, plan)?;
+    put_boot_fields(out, scene, plan)?;
     put_options(out, scene, plan)
 }
 

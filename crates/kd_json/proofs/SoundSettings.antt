@@ -3,6 +3,7 @@ use Rattle.std.proofs.Common.{◌≡◌, ℕ, zero, suc, ◌-◌, ◌≤◌, nat
 use Rattle.std.specs.List.{AllByRecursion}
 use Rattle.std.specs.Prelude.{option_and_then, option_map}
 use borrow.Author.Tests.{leb-true, ltb-true}
+use Rattle.kd_classes.specs.Boot.{no_boot}
 use Rattle.kd_classes.specs.HeldSet.{IsAccepted}
 use Rattle.kd_classes.specs.Order.{AreInOrder}
 use Rattle.kd_classes.specs.declared.definition.ClassDef.{ClassDef}
@@ -20,7 +21,7 @@ use Rattle.kd_json.specs.Pool.{has_pool_keys, pool_addresses, pool_of, pool_rang
 use Rattle.kd_json.specs.Reservation.{has_reservation_keys, identity_given, one_identity, reservation_of}
 use Rattle.kd_config.specs.Rules.{may_stand}
 use Rattle.kd_json.specs.Settings.{has_dhcp4_keys, has_root_keys, whole_settings, server_given, dhcp4_settings, settings_with, times_given}
-use Rattle.kd_config.specs.Sound.{AreOptions, IsClass, IsFrom, IsIdentity, IsPool, IsPrefix, IsRange, IsReservation, IsSound, IsSubnet}
+use Rattle.kd_config.specs.Sound.{AreOptions, IsBoot, IsClass, IsFrom, IsIdentity, IsPool, IsPrefix, IsRange, IsReservation, IsSound, IsSubnet}
 use Rattle.kd_json.specs.Subnet.{has_subnet_keys, subnet_prefix, subnet_of, subnet_with}
 use Rattle.kd_json.specs.Values.{address_given, hex_bytes_in, bytes_if_given, number_if_given, text_if_given}
 use Rattle.kd_json.specs.declared.objects.class.ClassEntry.{ClassEntry}
@@ -89,6 +90,10 @@ given_sound d identity e =
 no_options : AreOptions []
 no_options = record { few = omega arith; each = tt; own = tt }
 
+-- nothing for booting
+no_boot_sound : IsBoot no_boot
+no_boot_sound = record { next_server = tt; server_name = tt; file_name = tt }
+
 reservation_sound : (d : Data) (reservation : Reservation) → reservation_of d ≡ Some reservation → IsReservation reservation
 unfolding reservation_of
 reservation_sound d reservation e =
@@ -98,6 +103,7 @@ reservation_sound d reservation e =
     subst IsReservation (some_is _ reservation address.gives) (record {
       identity = given_sound d identity.first identity.is;
       options = no_options;
+      boots = tt;
     })
 
 pub prefix_in_sound : (d : Data) (prefix : Prefix) → subnet_prefix d ≡ Some prefix → IsPrefix prefix
@@ -124,6 +130,7 @@ subnet_sound d subnet e =
       reservations = each_meant IsReservation reservation_of reservation_sound 4096 (get (codes "reservations") d) reservations.first reservations.is;
       options = options_sound (get (codes "option-data") d) options.first options.is;
       shared = no_options;
+      boot = no_boot_sound;
     })
 
 pub name_sound : (d : Data) (name : List ℕ) → class_name_in d ≡ Some name → IsFrom 1 255 (length name)
@@ -145,6 +152,7 @@ entry_sound d entry e =
     subst IsEntry (some_is _ entry options.gives) (record {
       name = name_sound value.first name.first value.gives;
       options = options_sound (get (codes "option-data") d) options.first options.is;
+      boot = no_boot_sound;
     })
 
 pub some_server : (n : ℕ) → not (n == 0) ≡ true → 1 ≤ n
@@ -199,6 +207,7 @@ classes_sound files (entry ∷ entries) (def ∷ defs) h k accepted = (
     name = subst (λ name. IsFrom 1 255 (length name)) (sym k.0.name) h.0.name;
     test = accepted.0;
     options = subst AreOptions (sym k.0.options) h.0.options;
+    boot = subst IsBoot (sym k.0.boot) h.0.boot;
   },
   classes_sound files entries defs h.1 k.1 accepted.1,
 )

@@ -2,6 +2,7 @@
 use Rattle.std.specs.Prelude.{ℕ, Bool, ◌&&◌, nat_le, List, [], ◌∷◌, length, codes, Option, Some, None}
 use Rattle.serde_json.specs.Data.{Data}
 use Rattle.serde_json.specs.Find.{as_str, get}
+use Rattle.kd_classes.specs.Boot.{no_boot}
 use Rattle.kd_json.specs.Options.{option_list_in}
 use Rattle.kd_wire.specs.Steps.{◌>>=◌}
 use Rattle.kd_json.specs.Steps.{must, only_if}
@@ -43,4 +44,4 @@ class_of d = do
   name ← get (codes "name") d >>= class_name_in
   source ← test_source_in d
   options ← option_list_in (get (codes "option-data") d)
-  Some (record { name = name; source = source; options = options })
+  Some (record { name = name; source = source; options = options; boot = no_boot })

@@ -2,7 +2,7 @@
 -- within its limit. The rules over the whole are apart.
 use Rattle.std.specs.Prelude.{◌≤◌, length}
 use Rattle.std.specs.List.{AllByRecursion}
-use Rattle.kd_config.specs.Sound.{AreOptions, AreTimes, IsFrom, IsSubnet}
+use Rattle.kd_config.specs.Sound.{AreOptions, AreTimes, IsBoot, IsFrom, IsSubnet}
 use Rattle.kd_json.specs.declared.objects.class.ClassEntry.{ClassEntry}
 use Rattle.kd_json.specs.declared.objects.settings.Settings.{Settings}
 
@@ -10,6 +10,7 @@ use Rattle.kd_json.specs.declared.objects.settings.Settings.{Settings}
 pub record IsEntry (entry : ClassEntry) : Type 0 where
   pub name : IsFrom 1 255 (length entry.name)
   pub options : AreOptions entry.options
+  pub boot : IsBoot entry.boot
 
 -- settings
 pub record AreSettings (s : Settings) : Type 0 where

@@ -2,6 +2,7 @@
 use Rattle.std.specs.Prelude.{ℕ, Bool, List, [], ◌∷◌, codes, Option, Some}
 use Rattle.serde_json.specs.Data.{Data}
 use Rattle.serde_json.specs.Find.{as_str, get}
+use Rattle.kd_classes.specs.Boot.{no_boot}
 use Rattle.kd_json.specs.Address.{prefix_spelled}
 use Rattle.kd_json.specs.Lists.{list_of}
 use Rattle.kd_json.specs.Options.{option_list_in}
@@ -38,6 +39,7 @@ subnet_with prefix class d = do
     options = options;
     network = 0;
     shared = [];
+    boot = no_boot;
   })
 
 -- the subnet that a value describes; its `id` is checked but not used

@@ -14,6 +14,7 @@ pub mod Sounds
 pub mod SoundNames
 pub mod Parts
 pub mod SoundParts
+pub mod SoundBoot
 pub mod SoundSubnets
 pub mod SoundNetworks
 pub mod SoundKea
@@ -23,5 +24,6 @@ pub mod NoUnknown
 pub mod NoneWrong
 pub mod WorkedNotes
 pub mod WorkedNames
+pub mod WorkedBoot
 pub mod Shares
 pub mod WorkedTimes

@@ -9,6 +9,8 @@ use Rattle.kd_config.proofs.Tests.{some_is}
 use Rattle.kd_config.specs.Address.{has_address}
 use Rattle.kd_config.specs.declared.prefix.Prefix.{Prefix}
 use Rattle.kd_config.specs.declared.subnet.Subnet.{Subnet}
+use Rattle.kd_classes.specs.Boot.{boot_or}
+use Rattle.kd_classes.specs.declared.boot.Boot.{Boot}
 use Rattle.kd_classes.specs.declared.option_list.OptionData.{OptionData}
 use Rattle.kd_json.proofs.Came.{came_from, passed, passed_only, seen_from}
 use Rattle.kd_json.specs.FirstFault.{path_below}
@@ -18,12 +20,13 @@ use Rattle.kd_json.specs.Reservation.{identity_given}
 use Rattle.kd_json.specs.Subnet.{subnet_prefix}
 use Rattle.kd_json.specs.Values.{address_given, number_if_given, text_if_given}
 use Rattle.kd_json.specs.declared.objects.settings.Settings.{Settings}
+use Rattle.kd_kea.specs.Boot.{kea_boot, own_boot}
 use Rattle.kd_kea.specs.Class.{kea_class_options, kea_class}
 use Rattle.kd_kea.specs.Definitions.{are_apart, kea_definition, kea_definitions, kea_known, standard_records, usual_vendor}
 use Rattle.kd_kea.specs.Kea.{kea_settings}
 use Rattle.kd_kea.specs.HostName.{has_bare_names, host_name, host_options, may_be_named, server_has_bare_names}
 use Rattle.kd_kea.specs.Keys.{keys_are_read}
-use Rattle.kd_kea.specs.Notes.{KeyNote, ObjectNotes, above_by, all_subnet_notes, around_members, around_of, beside_note, inherited_notes, inside_notes, kea_inside, network_below, network_lists, network_notes, network_own, network_values, outside_in, prefix_given, class_notes, data_notes, definition_note, definition_notes, each_described, flag_note, have_refused, host_notes, is_not_failed, is_served_if_given, item_notes, items_of, kea_below, kea_beside, kea_notes, kea_value, usable_definitions, list_notes, listed_notes, lists_by, name_notes, note_on_name, note_unless, notes_at, notes_of_each, number_note, object_notes, option_notes, or_wrong, own_notes, pool_notes, relay_notes, right_definitions, root_notes, server_lists, server_flags, server_notes, server_times, server_values, subnet_lists, subnet_notes, subnet_own, subnet_values, text_note, all_times, value_notes, with_first, required_notes}
+use Rattle.kd_kea.specs.Notes.{KeyNote, ObjectNotes, above_by, all_subnet_notes, around_members, around_of, beside_note, boot_in, boot_notes, inherited_notes, inside_notes, kea_inside, network_below, network_lists, network_notes, network_own, network_values, outside_in, prefix_given, class_notes, data_notes, definition_note, definition_notes, each_described, flag_note, have_refused, host_notes, is_not_failed, is_served_if_given, item_notes, items_of, kea_below, kea_beside, kea_notes, kea_value, usable_definitions, list_notes, listed_notes, lists_by, name_notes, note_on_name, note_unless, notes_at, notes_of_each, number_note, object_notes, option_notes, or_wrong, own_notes, pool_notes, relay_notes, right_definitions, root_notes, server_lists, server_flags, server_notes, server_times, server_values, subnet_lists, subnet_notes, subnet_own, subnet_values, text_note, all_times, value_notes, with_first, required_notes}
 use Rattle.kd_kea.specs.Network.{above_members, as_member, has_network_form, is_in_one_of, is_interface_of, kea_common, kea_member, kea_network, kea_subnets, may_be_of, one_class}
 use Rattle.kd_kea.specs.Options.{is_served_space, kea_entry, kea_options, server_address}
 use Rattle.kd_kea.specs.Parts.{parts_of_all}
@@ -43,7 +46,7 @@ use Rattle.kd_kea.specs.declared.objects.network.Common.{Common}
 use Rattle.kd_kea.specs.declared.objects.policy.Policy.{Policy}
 use Rattle.kd_kea.specs.declared.objects.subnet.Above.{Above}
 use Rattle.kd_wire.specs.Steps.{◌>>=◌}
-use Rattle.kd_kea.proofs.NoneWrong.{none_in_both, own_pass, unless_none, right, flag_right, wrong_none, object_none, is_object, form_of, server_values_pass, bind_is, server_times_pass, Fits, subnet_values_pass, address_known, times_known, around_fits, above_known, below_known, inherited_pass, must_hold}
+use Rattle.kd_kea.proofs.NoneWrong.{none_in_both, own_boot_pass, boot_pass, own_pass, unless_none, right, flag_right, wrong_none, object_none, is_object, form_of, server_values_pass, bind_is, server_times_pass, Fits, subnet_values_pass, address_known, times_known, around_fits, above_known, below_known, inherited_pass, must_hold}
 
 -- ---- definitions, each by itself
 
@@ -191,12 +194,16 @@ host_pass known bare d r path e =
     let identity = came_from (identity_given d) _ r client.1 in
     let address = came_from (get (codes "ip-address") d >>= address_given) _ r identity.gives in
     let options = came_from (host_options known bare d) _ r address.gives in
+    let boot = came_from (own_boot d) _ r options.gives in
     let given = host_options_pass known bare path d options.first options.is in
     let keyed = own_notes host_keys path d in
     let of_name = name_notes bare path d in
-    object_none (kea_reservation known bare d) r path d (keyed ++ of_name ++ option_notes false known path d) e (is_object host_keys d keys.0)
-    (none_in_both (keyed ++ of_name) (option_notes false known path d)
-    (none_in_both keyed of_name (own_pass host_keys path d keys.0) given.name) given.options)
+    let of_boot = boot_notes path d in
+    object_none (kea_reservation known bare d) r path d (keyed ++ of_name ++ of_boot ++ option_notes false known path d) e (is_object host_keys d keys.0)
+    (none_in_both (keyed ++ of_name ++ of_boot) (option_notes false known path d)
+    (none_in_both (keyed ++ of_name) of_boot
+    (none_in_both keyed of_name (own_pass host_keys path d keys.0) given.name)
+    (own_boot_pass path d boot.first boot.is)) given.options)
 
 class_pass : (known : List Definition) → NoneRefused (kea_class known) (class_notes known)
 unfolding kea_class kea_class_options class_notes
@@ -205,18 +212,22 @@ class_pass known d class path e =
     let name = came_from (get (codes "name") d >>= class_name_in) _ class keys.1 in
     let text = came_from (text_if_given (get (codes "test") d)) _ class name.gives in
     let options = came_from (kea_class_options known d) _ class text.gives in
+    let boot = came_from (own_boot d) _ class options.gives in
     let own = came_from (kea_definitions true (get (codes "option-def") d)) _ options.first options.is in
     let keyed = own_notes class_keys path d in
     let of_name = note_unless (is_some (get (codes "name") d >>= class_name_in)) Wrong path (codes "name") in
     let of_test = text_note (codes "test") path d in
+    let of_boot = boot_notes path d in
     let definitions = definition_notes true path d in
     let given = option_notes false (right_definitions true d ++ known) path d in
-    object_none (kea_class known d) class path d (keyed ++ of_name ++ of_test ++ definitions ++ given) e (is_object class_keys d keys.0)
-    (none_in_both (keyed ++ of_name ++ of_test ++ definitions) given
-    (none_in_both (keyed ++ of_name ++ of_test) definitions
+    object_none (kea_class known d) class path d (keyed ++ of_name ++ of_test ++ of_boot ++ definitions ++ given) e (is_object class_keys d keys.0)
+    (none_in_both (keyed ++ of_name ++ of_test ++ of_boot ++ definitions) given
+    (none_in_both (keyed ++ of_name ++ of_test ++ of_boot) definitions
+    (none_in_both (keyed ++ of_name ++ of_test) of_boot
     (none_in_both (keyed ++ of_name) of_test
     (none_in_both keyed of_name (own_pass class_keys path d keys.0) (right (get (codes "name") d >>= class_name_in) name.first path (codes "name") name.is))
     (right (text_if_given (get (codes "test") d)) text.first path (codes "test") text.is))
+    (own_boot_pass path d boot.first boot.is))
     (definitions_pass true d own.first path own.is))
     (subst (λ (its : List Definition). have_refused (option_notes false (its ++ known) path d) ≡ false) (sym (right_all true d own.first own.is)) (options_pass false (own.first ++ known) d options.first path own.gives)))
 
@@ -243,33 +254,36 @@ subnet_form above d e =
     let id = came_from (number_if_given 1 4294967294 1 (get (codes "id") d)) _ tt policy.1 in
     record { keys = keys.0; times = times.is; policy = policy.0; id = ap is_some id.is }
 
--- the lists and the relay of a subnet
+-- the lists, the relay and the boot fields of a subnet
 record ListsPass (known : List Definition) (bare : Bool) (path : List ℕ) (d : Data) : Type 0 where
   options : have_refused (option_notes false known path d) ≡ false
   relay : have_refused (notes_at relay_notes path (codes "relay") d) ≡ false
   pools : have_refused (listed_notes 64 (pool_notes known) (codes "pools") path d) ≡ false
   hosts : have_refused (listed_notes 4096 (host_notes known bare) (codes "reservations") path d) ≡ false
+  boot : have_refused (boot_notes path d) ≡ false
 
-subnet_lists_pass : (known : List Definition) (bare outside : Bool) (prefix : Prefix) (class : Option (List ℕ)) (path : List ℕ) (d : Data) (subnet : Subnet) → kea_subnet_with known bare outside prefix class d ≡ Some subnet → ListsPass known bare path d
+subnet_lists_pass : (known : List Definition) (bare outside : Bool) (above : Boot) (prefix : Prefix) (class : Option (List ℕ)) (path : List ℕ) (d : Data) (subnet : Subnet) → kea_subnet_with known bare outside above prefix class d ≡ Some subnet → ListsPass known bare path d
 unfolding kea_subnet_with
-subnet_lists_pass known bare outside prefix class path d subnet e =
+subnet_lists_pass known bare outside above prefix class path d subnet e =
     let relays = came_from (relays_of (get (codes "relay") d)) _ subnet e in
     let parts = came_from (list_of 64 (kea_pool known) (get (codes "pools") d) >>= parts_of_all) _ subnet relays.gives in
     let pools = came_from (list_of 64 (kea_pool known) (get (codes "pools") d)) parts_of_all parts.first parts.is in
     let hosts = came_from (list_of 4096 (kea_reservation known bare) (get (codes "reservations") d)) _ subnet parts.gives in
     let beside = passed (stand_beside outside parts.first hosts.first) _ subnet hosts.gives in
     let options = came_from (kea_options false known (get (codes "option-data") d)) _ subnet beside.1 in
+    let boot = came_from (kea_boot d) _ subnet options.gives in
     record {
       options = options_pass false known d options.first path options.is;
       relay = relay_pass (path_below path (codes "relay")) (get (codes "relay") d) relays.first relays.is;
       pools = listed_pass 64 (kea_pool known) (pool_notes known) (pool_pass known) (codes "pools") path d pools.first pools.is;
       hosts = listed_pass 4096 (kea_reservation known bare) (host_notes known bare) (host_pass known bare) (codes "reservations") path d hosts.first hosts.is;
+      boot = boot_pass path d boot.first boot.is;
     }
 
-beside_pass : (given : Option Bool) (other bare : Bool) (known : List Definition) (outside : Bool) (prefix : Prefix) (class : Option (List ℕ)) (path : List ℕ) (d : Data) (subnet : Subnet) → given ≡ Some other → flag_or other (get (codes "reservations-out-of-pool") d) ≡ Some outside → kea_subnet_with known (has_bare_names bare d) outside prefix class d ≡ Some subnet
+beside_pass : (given : Option Bool) (other bare : Bool) (known : List Definition) (outside : Bool) (above : Boot) (prefix : Prefix) (class : Option (List ℕ)) (path : List ℕ) (d : Data) (subnet : Subnet) → given ≡ Some other → flag_or other (get (codes "reservations-out-of-pool") d) ≡ Some outside → kea_subnet_with known (has_bare_names bare d) outside above prefix class d ≡ Some subnet
     → have_refused (beside_note given bare known path d) ≡ false
 unfolding kea_subnet_with kea_beside
-beside_pass given other bare known outside prefix class path d subnet e f g =
+beside_pass given other bare known outside above prefix class path d subnet e f g =
     let relays = came_from (relays_of (get (codes "relay") d)) _ subnet g in
     let pools = came_from (list_of 64 (kea_pool known) (get (codes "pools") d) >>= parts_of_all) _ subnet relays.gives in
     let hosts = came_from (list_of 4096 (kea_reservation known (has_bare_names bare d)) (get (codes "reservations") d)) _ subnet pools.gives in
@@ -282,21 +296,23 @@ beside_pass given other bare known outside prefix class path d subnet e f g =
     (ap Some beside.0)))) in
     unless_none (is_not_failed (kea_beside given bare known d)) Unknown path (codes "reservations-out-of-pool") (ap is_not_failed all_right)
 
-subnet_own_pass : (above : Above) (path : List ℕ) (d : Data) (prefix : Prefix) (class : Option (List ℕ)) (outside : Bool) → HasSubnetForm above d → (get (codes "subnet") d >>= subnet_prefix) ≡ Some prefix → text_if_given (get (codes "client-class") d) ≡ Some class → flag_or above.outside (get (codes "reservations-out-of-pool") d) ≡ Some outside
+subnet_own_pass : (above : Above) (path : List ℕ) (d : Data) (prefix : Prefix) (class : Option (List ℕ)) (outside : Bool) → HasSubnetForm above d → (get (codes "subnet") d >>= subnet_prefix) ≡ Some prefix → text_if_given (get (codes "client-class") d) ≡ Some class → flag_or above.outside (get (codes "reservations-out-of-pool") d) ≡ Some outside → have_refused (boot_notes path d) ≡ false
     → have_refused (subnet_own path d) ≡ false
 unfolding subnet_own
-subnet_own_pass above path d prefix class outside form e f g =
+subnet_own_pass above path d prefix class outside form e f g boot =
     let of_id = number_note 1 4294967294 (codes "id") path d in
     let of_prefix = note_unless (is_some (get (codes "subnet") d >>= subnet_prefix)) Wrong path (codes "subnet") in
     let of_class = text_note (codes "client-class") path d in
     let of_outside = flag_note (codes "reservations-out-of-pool") path d in
-    none_in_both (of_id ++ of_prefix ++ of_class) of_outside
+    none_in_both (of_id ++ of_prefix ++ of_class ++ of_outside) (boot_notes path d)
+    (none_in_both (of_id ++ of_prefix ++ of_class) of_outside
     (none_in_both (of_id ++ of_prefix) of_class
     (none_in_both of_id of_prefix
     (unless_none (is_some (number_if_given 1 4294967294 1 (get (codes "id") d))) Wrong path (codes "id") form.id)
     (right (get (codes "subnet") d >>= subnet_prefix) prefix path (codes "subnet") e))
     (right (text_if_given (get (codes "client-class") d)) class path (codes "client-class") f))
-    (unless_none (is_some (flag_given (get (codes "reservations-out-of-pool") d))) Wrong path (codes "reservations-out-of-pool") (flag_right above.outside (get (codes "reservations-out-of-pool") d) outside g))
+    (unless_none (is_some (flag_given (get (codes "reservations-out-of-pool") d))) Wrong path (codes "reservations-out-of-pool") (flag_right above.outside (get (codes "reservations-out-of-pool") d) outside g)))
+    boot
 
 subnet_pass : (above : Above) (around : Around) → Fits above around → (known : List Definition) → NoneRefused (kea_subnet above known) (subnet_notes around known)
 unfolding kea_subnet subnet_notes subnet_lists
@@ -308,8 +324,8 @@ subnet_pass above around fits known d subnet path e =
     let class = came_from (text_if_given (get (codes "client-class") d)) _ subnet link.1 in
     let outside = came_from (flag_or above.outside (get (codes "reservations-out-of-pool") d)) _ subnet class.gives in
     let bare = has_bare_names around.bare d in
-    let listed = subst (λ (b : Bool). kea_subnet_with known (has_bare_names b d) outside.first prefix.first (unless_empty class.first) d ≡ Some subnet) (sym fits.bare) outside.gives in
-    let lists = subnet_lists_pass known bare outside.first prefix.first (unless_empty class.first) path d subnet listed in
+    let listed = subst (λ (b : Bool). kea_subnet_with known (has_bare_names b d) outside.first above.boot prefix.first (unless_empty class.first) d ≡ Some subnet) (sym fits.bare) outside.gives in
+    let lists = subnet_lists_pass known bare outside.first above.boot prefix.first (unless_empty class.first) path d subnet listed in
     let keyed = own_notes subnet_keys path d in
     let values = subnet_values around path d in
     let own = subnet_own path d in
@@ -324,8 +340,8 @@ subnet_pass above around fits known d subnet path e =
     (none_in_both (keyed ++ values ++ own) beside
     (none_in_both (keyed ++ values) own
     (none_in_both keyed values (own_pass subnet_keys path d form.keys) (subnet_values_pass above around fits path d prefix.first form.times form.policy prefix.is link.0))
-    (subnet_own_pass above path d prefix.first class.first outside.first form prefix.is class.is outside.is))
-    (beside_pass around.outside above.outside around.bare known outside.first prefix.first (unless_empty class.first) path d subnet fits.outside outside.is listed))
+    (subnet_own_pass above path d prefix.first class.first outside.first form prefix.is class.is outside.is lists.boot))
+    (beside_pass around.outside above.outside around.bare known outside.first above.boot prefix.first (unless_empty class.first) path d subnet fits.outside outside.is listed))
     (none_in_both (options ++ pools ++ hosts) relay
     (none_in_both (options ++ pools) hosts
     (none_in_both options pools lists.options lists.pools)
@@ -365,9 +381,10 @@ member_prefix above known common d member e =
     let hosts = came_from (list_of 4096 (kea_reservation known bare) (get (codes "reservations") d)) _ subnet.first pools.gives in
     let beside = passed (stand_beside outside.first pools.first hosts.first) _ subnet.first hosts.gives in
     let options = came_from (kea_options false known (get (codes "option-data") d)) _ subnet.first beside.1 in
+    let boot = came_from (kea_boot d) _ subnet.first options.gives in
     let own = came_from (one_class subnet.first.class common.class) _ member subnet.gives in
     let may = passed (may_be_of own.first subnet.first.pools subnet.first.reservations) _ member own.gives in
-    prefix.is ∙ (ap (λ (s : Subnet). Some s.prefix) (some_is _ subnet.first options.gives) ∙ ap (λ (s : Subnet). Some s.prefix) (some_is _ member may.1))
+    prefix.is ∙ (ap (λ (s : Subnet). Some s.prefix) (some_is _ subnet.first boot.gives) ∙ ap (λ (s : Subnet). Some s.prefix) (some_is _ member may.1))
 
 member_prefixes : (above : Above) (known : List Definition) (common : Common) (items : Items) (members : List Subnet) → all_of (kea_member above known common) items ≡ Some members → all_of prefix_given items ≡ Some (map (λ (s : Subnet). s.prefix) members)
 member_prefixes above known common no_items members e = ap (λ (xs : List Subnet). Some (map (λ (s : Subnet). s.prefix) xs)) (some_is [] members e)
@@ -411,29 +428,32 @@ unfolding network_values
 network_values_pass above around fits path d e same inside =
     none_in_both (inherited_notes around path d) (inside_notes around.address path d) (inherited_pass above around fits path d e same) inside
 
-network_own_pass : (path : List ℕ) (d : Data) (other outside : Bool) → is_some (get (codes "name") d >>= as_str) ≡ true → is_some (text_if_given (get (codes "client-class") d)) ≡ true → flag_or other (get (codes "reservations-out-of-pool") d) ≡ Some outside
+network_own_pass : (path : List ℕ) (d : Data) (other outside : Bool) → is_some (get (codes "name") d >>= as_str) ≡ true → is_some (text_if_given (get (codes "client-class") d)) ≡ true → flag_or other (get (codes "reservations-out-of-pool") d) ≡ Some outside → have_refused (boot_notes path d) ≡ false
     → have_refused (network_own path d) ≡ false
 unfolding network_own
-network_own_pass path d other outside e f g =
+network_own_pass path d other outside e f g boot =
     let of_name = note_unless (is_some (get (codes "name") d >>= as_str)) Wrong path (codes "name") in
     let of_class = text_note (codes "client-class") path d in
     let of_outside = flag_note (codes "reservations-out-of-pool") path d in
-    none_in_both (of_name ++ of_class) of_outside
+    none_in_both (of_name ++ of_class ++ of_outside) (boot_notes path d)
+    (none_in_both (of_name ++ of_class) of_outside
     (none_in_both of_name of_class
     (unless_none (is_some (get (codes "name") d >>= as_str)) Wrong path (codes "name") e)
     (unless_none (is_some (text_if_given (get (codes "client-class") d))) Wrong path (codes "client-class") f))
-    (unless_none (is_some (flag_given (get (codes "reservations-out-of-pool") d))) Wrong path (codes "reservations-out-of-pool") (flag_right other (get (codes "reservations-out-of-pool") d) outside g))
+    (unless_none (is_some (flag_given (get (codes "reservations-out-of-pool") d))) Wrong path (codes "reservations-out-of-pool") (flag_right other (get (codes "reservations-out-of-pool") d) outside g)))
+    boot
 
 -- what holds above the members of a network is known of each part
-members_fit : (above : Above) (around : Around) → Fits above around → (d : Data) (outside : Bool) → flag_or above.outside (get (codes "reservations-out-of-pool") d) ≡ Some outside → Fits (above_members above outside d) (around_members around d)
-unfolding around_members outside_in
-members_fit above around fits d outside e =
+members_fit : (above : Above) (around : Around) → Fits above around → (d : Data) (outside : Bool) (boot : Boot) → flag_or above.outside (get (codes "reservations-out-of-pool") d) ≡ Some outside → kea_boot d ≡ Some boot → Fits (above_members above outside boot d) (around_members around d)
+unfolding around_members outside_in boot_in
+members_fit above around fits d outside boot e f =
     record {
       address = fits.address;
       times = fits.times;
       outside = bind_is around.outside above.outside (λ (b : Bool). flag_or b (get (codes "reservations-out-of-pool") d)) outside fits.outside e;
       bare = ap (λ (b : Bool). has_bare_names b d) fits.bare;
       policy = fits.policy;
+      boot = bind_is around.boot above.boot _ (boot_or boot above.boot) fits.boot (bind_is (kea_boot d) boot _ (boot_or boot above.boot) f refl);
       calculated = fits.calculated;
       shares = fits.shares;
       lifetime = fits.lifetime;
@@ -476,9 +496,10 @@ network_pass above around fits known d members path e =
     let form = network_form above d given.is in
     let common = came_from (kea_common known d) _ members given.gives in
     let outside = came_from (flag_or above.outside (get (codes "reservations-out-of-pool") d)) _ members common.gives in
-    let inner = above_members above outside.first d in
+    let boot = came_from (kea_boot d) _ members outside.gives in
+    let inner = above_members above outside.first boot.first d in
     let inner_around = around_members around d in
-    let read = came_from (list_of 64 (kea_member inner known common.first) (get (codes "subnet4") d)) _ members outside.gives in
+    let read = came_from (list_of 64 (kea_member inner known common.first) (get (codes "subnet4") d)) _ members boot.gives in
     let here = passed (is_interface_of (is_in_one_of read.first above.server) (get (codes "interface") d)) _ members read.gives in
     let shared = common_pass known path d common.first common.is in
     let keyed = own_notes network_keys path d in
@@ -488,13 +509,13 @@ network_pass above around fits known d members path e =
     let listed = listed_notes 64 (subnet_notes inner_around known) (codes "subnet4") path d in
     let relay = notes_at relay_notes path (codes "relay") d in
     let inside = inside_pass around.address above.server inner known common.first path d read.first fits.address read.is here.0 in
-    let each = member_pass inner inner_around (members_fit above around fits d outside.first outside.is) known common.first in
+    let each = member_pass inner inner_around (members_fit above around fits d outside.first boot.first outside.is boot.is) known common.first in
     object_none (network_below (above_by around) known d) tt path d (keyed ++ values ++ own ++ (options ++ listed ++ relay))
     (network_known (above_by around) above known d members (above_known above around fits) e) (is_object network_keys d form.keys)
     (none_in_both (keyed ++ values ++ own) (options ++ listed ++ relay)
     (none_in_both (keyed ++ values) own
     (none_in_both keyed values (own_pass network_keys path d form.keys) (network_values_pass above around fits path d form.times form.policy inside))
-    (network_own_pass path d above.outside outside.first form.name shared.class outside.is))
+    (network_own_pass path d above.outside outside.first form.name shared.class outside.is (boot_pass path d boot.first boot.is)))
     (none_in_both (options ++ listed) relay
     (none_in_both options listed shared.options
     (listed_pass 64 (kea_member inner known common.first) (subnet_notes inner_around known) each (codes "subnet4") path d read.first read.is))
@@ -529,20 +550,22 @@ ServerLists around known path d =
     ++ listed_notes 256 (class_notes known) (codes "client-classes") path d
     ++ all_subnet_notes around known path d
 
--- the truth values of the whole server
-flags_pass : (path : List ℕ) (d : Data) (outside : Bool) (policy : Policy) → flag_given (get (codes "reservations-out-of-pool") d) ≡ Some outside → kea_policy d ≡ Some policy → have_refused (server_flags path d) ≡ false
+-- the truth values and the boot fields of the whole server
+flags_pass : (path : List ℕ) (d : Data) (outside : Bool) (policy : Policy) (boot : Boot) → flag_given (get (codes "reservations-out-of-pool") d) ≡ Some outside → kea_policy d ≡ Some policy → kea_boot d ≡ Some boot → have_refused (server_flags path d) ≡ false
 unfolding server_flags kea_policy
-flags_pass path d outside policy e f =
+flags_pass path d outside policy boot e f g =
     let authoritative = came_from (flag_given (get (codes "authoritative") d)) _ policy f in
     let matches = came_from (flag_or true (get (codes "match-client-id") d)) _ policy authoritative.gives in
     let of_outside = flag_note (codes "reservations-out-of-pool") path d in
     let of_authoritative = flag_note (codes "authoritative") path d in
     let of_matches = flag_note (codes "match-client-id") path d in
-    none_in_both (of_outside ++ of_authoritative) of_matches
+    none_in_both (of_outside ++ of_authoritative ++ of_matches) (boot_notes path d)
+    (none_in_both (of_outside ++ of_authoritative) of_matches
     (none_in_both of_outside of_authoritative
     (right (flag_given (get (codes "reservations-out-of-pool") d)) outside path (codes "reservations-out-of-pool") e)
     (right (flag_given (get (codes "authoritative") d)) authoritative.first path (codes "authoritative") authoritative.is))
-    (unless_none (is_some (flag_given (get (codes "match-client-id") d))) Wrong path (codes "match-client-id") (flag_right true (get (codes "match-client-id") d) matches.first matches.is))
+    (unless_none (is_some (flag_given (get (codes "match-client-id") d))) Wrong path (codes "match-client-id") (flag_right true (get (codes "match-client-id") d) matches.first matches.is)))
+    (boot_pass path d boot g)
 
 server_pass : (server : Option ℕ) → NoneRefused (kea_dhcp4 server) (server_notes server)
 unfolding kea_dhcp4 server_notes server_lists lists_by all_times
@@ -553,15 +576,16 @@ server_pass server d settings path e =
     let times = came_from (kea_times calculated.first d) _ settings shares.1 in
     let outside = came_from (flag_given (get (codes "reservations-out-of-pool") d)) _ settings times.gives in
     let policy = came_from (kea_policy d) _ settings outside.gives in
-    let known = came_from (kea_known (get (codes "option-def") d)) _ settings policy.gives in
+    let boot = came_from (kea_boot d) _ settings policy.gives in
+    let known = came_from (kea_known (get (codes "option-def") d)) _ settings boot.gives in
     let options = came_from (kea_options true known.first (get (codes "option-data") d)) _ settings known.gives in
     let address = came_from (server_address options.first server) _ settings options.gives in
-    let above : Above = record { server = address.first; times = times.first; calculated = calculated.first; shares = shares_given d; outside = outside.first; bare = server_has_bare_names d; policy = policy.first } in
+    let above : Above = record { server = address.first; times = times.first; calculated = calculated.first; shares = shares_given d; outside = outside.first; bare = server_has_bare_names d; policy = policy.first; boot = boot.first } in
     let around = around_of server d in
     let fits = around_fits server d above
     (address_known server d known.first options.first address.first known.is options.is address.is)
     (bind_is (flag_given (get (codes "calculate-tee-times") d)) calculated.first (λ (b : Bool). kea_times b d) times.first calculated.is times.is)
-    (times_known d calculated.first times.first calculated.is times.is) calculated.is outside.is refl refl policy.is in
+    (times_known d calculated.first times.first calculated.is times.is) calculated.is outside.is refl refl policy.is boot.is in
     let lists = lists_pass known.first options.first above around fits path d settings address.gives in
     let form = form_of d given.is in
     let keyed = own_notes server_keys path d in
@@ -584,7 +608,7 @@ server_pass server d settings path e =
     (none_in_both (keyed ++ values) own_times
     (none_in_both keyed values (own_pass server_keys path d form.keys) (server_values_pass path d calculated.first form calculated.is shares.0))
     (server_times_pass path d calculated.first times.first calculated.is times.is))
-    (flags_pass path d outside.first policy.first outside.is policy.is))
+    (flags_pass path d outside.first policy.first boot.first outside.is policy.is boot.is))
     (subst (λ (its : List Definition). have_refused (ServerLists around its path d) ≡ false) (sym (known_same d known.first known.is)) all_lists))
 
 value_pass : {A : Type 0} (means : Data → Option A) (notes : ObjectNotes) → NoneRefused means notes → (path : List ℕ) (value : Option Data) (a : A) → (value >>= means) ≡ Some a → have_refused (value_notes notes path value) ≡ false
@@ -633,7 +657,7 @@ unfolding class_notes
 class_noted known path d e =
     let of_name = note_unless (is_some (get (codes "name") d >>= class_name_in)) Wrong path (codes "name") in
     nothing_noted (kea_class known d) path d
-    (own_notes class_keys path d ++ of_name ++ text_note (codes "test") path d ++ definition_notes true path d ++ option_notes false (right_definitions true d ++ known) path d) e
+    (own_notes class_keys path d ++ of_name ++ text_note (codes "test") path d ++ boot_notes path d ++ definition_notes true path d ++ option_notes false (right_definitions true d ++ known) path d) e
 
 pub pool_noted : (known : List Definition) (path : List ℕ) (d : Data) → kea_pool known d ≡ None → have_refused (pool_notes known path d) ≡ true
 unfolding pool_notes
@@ -644,7 +668,7 @@ pool_noted known path d e =
 pub host_noted : (known : List Definition) (bare : Bool) (path : List ℕ) (d : Data) → kea_reservation known bare d ≡ None → have_refused (host_notes known bare path d) ≡ true
 unfolding host_notes
 host_noted known bare path d e =
-    nothing_noted (kea_reservation known bare d) path d (own_notes host_keys path d ++ name_notes bare path d ++ option_notes false known path d) e
+    nothing_noted (kea_reservation known bare d) path d (own_notes host_keys path d ++ name_notes bare path d ++ boot_notes path d ++ option_notes false known path d) e
 
 root_noted : (server : Option ℕ) (d : Data) → kea_root server d ≡ None → have_refused (root_notes server d) ≡ true
 unfolding root_notes

@@ -10,17 +10,19 @@ use Rattle.kd_config.specs.Sound.{longest_lease}
 use Rattle.kd_config.specs.declared.prefix.Prefix.{Prefix}
 use Rattle.kd_config.specs.declared.subnet.Subnet.{Subnet}
 use Rattle.kd_config.specs.declared.times.Times.{Times}
+use Rattle.kd_classes.specs.declared.boot.Boot.{Boot}
 use Rattle.kd_classes.specs.declared.option_list.OptionData.{OptionData}
 use Rattle.kd_json.proofs.Came.{came_from, passed}
 use Rattle.kd_json.specs.FirstFault.{path_below}
 use Rattle.kd_json.specs.Steps.{must}
 use Rattle.kd_json.specs.Subnet.{subnet_prefix}
 use Rattle.kd_json.specs.Values.{number_if_given}
+use Rattle.kd_kea.specs.Boot.{field_given, kea_boot, next_server_given, own_boot}
 use Rattle.kd_kea.specs.Definitions.{kea_known}
 use Rattle.kd_kea.specs.HostName.{server_has_bare_names}
 use Rattle.kd_kea.specs.Hooks.{hooks_are_quiet}
 use Rattle.kd_kea.specs.Keys.{KeyUse, Plain, each_key, flag, fraction, has_only_keys, is_plain, key_use, keys_are_read, may_have, no_list, served, skipped, usual, whole}
-use Rattle.kd_kea.specs.Notes.{KeyNote, above_by, around_of, calculated_notes, flag_note, have_refused, hook_kind, hook_notes, inherited_notes, interface_notes, kea_address, kea_below, key_notes, keys_in, kind_of_note, lease_notes, lifetime_in, limit_notes, member_keys, note_below, note_unless, notes_at, number_note, object_notes, off_note, off_notes, or_wrong, own_notes, policy_notes, rebind_in, renew_in, repeated_notes, repeated_shares, server_times, server_values, service_notes, share_notes, subnet_values, time_note, all_times, unused_share, unused_shares, usual_note, value_notes}
+use Rattle.kd_kea.specs.Notes.{KeyNote, above_by, around_of, boot_notes, calculated_notes, flag_note, have_refused, hook_kind, hook_notes, inherited_notes, interface_notes, kea_address, kea_below, key_notes, keys_in, kind_of_note, lease_notes, lifetime_in, limit_notes, member_keys, note_below, note_unless, notes_at, number_note, object_notes, off_note, off_notes, or_wrong, own_notes, policy_notes, rebind_in, renew_in, repeated_notes, repeated_shares, server_times, server_values, service_notes, share_notes, subnet_values, time_note, all_times, unused_share, unused_shares, usual_note, value_notes}
 use Rattle.kd_kea.specs.Options.{kea_options, server_address}
 use Rattle.kd_kea.specs.Policy.{kea_policy, repeats_policy}
 use Rattle.kd_kea.specs.Settings.{finds_reservations, has_server_form, turns_nothing_on}
@@ -169,6 +171,28 @@ pub flag_right : (other : Bool) (value : Option Data) (given : Bool) → flag_or
 flag_right other None given e = refl
 flag_right other (Some d) given e = ap is_some e
 
+-- what is given to the boot fields is not wrong
+pub boot_pass : (path : List ℕ) (d : Data) (boot : Boot) → kea_boot d ≡ Some boot → have_refused (boot_notes path d) ≡ false
+unfolding kea_boot boot_notes
+boot_pass path d boot e =
+    let server = came_from (next_server_given (get (codes "next-server") d)) _ boot e in
+    let name = came_from (field_given 64 (get (codes "server-hostname") d)) _ boot server.gives in
+    let file = came_from (field_given 128 (get (codes "boot-file-name") d)) _ boot name.gives in
+    let of_server = note_unless (is_some (next_server_given (get (codes "next-server") d))) Wrong path (codes "next-server") in
+    let of_name = note_unless (is_some (field_given 64 (get (codes "server-hostname") d))) Wrong path (codes "server-hostname") in
+    let of_file = note_unless (is_some (field_given 128 (get (codes "boot-file-name") d))) Wrong path (codes "boot-file-name") in
+    none_in_both (of_server ++ of_name) of_file
+    (none_in_both of_server of_name
+    (right (next_server_given (get (codes "next-server") d)) server.first path (codes "next-server") server.is)
+    (right (field_given 64 (get (codes "server-hostname") d)) name.first path (codes "server-hostname") name.is))
+    (right (field_given 128 (get (codes "boot-file-name") d)) file.first path (codes "boot-file-name") file.is)
+
+-- nor is what a class or a reservation gives to them
+pub own_boot_pass : (path : List ℕ) (d : Data) (boot : Boot) → own_boot d ≡ Some boot → have_refused (boot_notes path d) ≡ false
+unfolding own_boot
+own_boot_pass path d boot e =
+    let given = came_from (kea_boot d) _ boot e in boot_pass path d given.first given.is
+
 pub wrong_none : (described : Bool) (path : List ℕ) (notes : List KeyNote) → described ≡ true → have_refused notes ≡ false → have_refused (or_wrong described path notes) ≡ false
 wrong_none true path notes e f = by (have_refused notes) where
   by : (b : Bool) → have_refused (if b || true then notes else notes ++ (path, Wrong) ∷ []) ≡ false
@@ -277,6 +301,7 @@ pub record Fits (above : Above) (around : Around) : Type 0 where
   pub outside : around.outside ≡ Some above.outside
   pub bare : around.bare ≡ above.bare
   pub policy : around.policy ≡ Some above.policy
+  pub boot : around.boot ≡ Some above.boot
   pub calculated : around.calculated ≡ Some above.calculated
   pub shares : around.shares ≡ above.shares
   pub lifetime : around.lifetime ≡ Some above.times.lifetime
@@ -395,10 +420,10 @@ times_known d calculated times f e =
       rebind = bind_is given calculated _ rebind.first f (bind_is (lifetime_in d) lifetime.first _ rebind.first lifetime.is rebind.is);
     })
 
-pub around_fits : (server : Option ℕ) (d : Data) (above : Above) → kea_address server d ≡ Some above.server → all_times d ≡ Some above.times → HasTimes d above.times → flag_given (get (codes "calculate-tee-times") d) ≡ Some above.calculated → flag_given (get (codes "reservations-out-of-pool") d) ≡ Some above.outside → shares_given d ≡ above.shares → server_has_bare_names d ≡ above.bare → kea_policy d ≡ Some above.policy
+pub around_fits : (server : Option ℕ) (d : Data) (above : Above) → kea_address server d ≡ Some above.server → all_times d ≡ Some above.times → HasTimes d above.times → flag_given (get (codes "calculate-tee-times") d) ≡ Some above.calculated → flag_given (get (codes "reservations-out-of-pool") d) ≡ Some above.outside → shares_given d ≡ above.shares → server_has_bare_names d ≡ above.bare → kea_policy d ≡ Some above.policy → kea_boot d ≡ Some above.boot
     → Fits above (around_of server d)
 unfolding around_of
-around_fits server d above e given times f g s b p = record { address = e; times = given; outside = g; bare = b; policy = p; calculated = f; shares = s; lifetime = times.lifetime; renew = times.renew; rebind = times.rebind }
+around_fits server d above e given times f g s b p o = record { address = e; times = given; outside = g; bare = b; policy = p; boot = o; calculated = f; shares = s; lifetime = times.lifetime; renew = times.renew; rebind = times.rebind }
 
 pub above_known : (above : Above) (around : Around) → Fits above around → above_by around ≡ Some above
 unfolding above_by
@@ -408,8 +433,9 @@ above_known above around fits =
     (bind_is around.calculated above.calculated _ above fits.calculated
     (bind_is around.outside above.outside _ above fits.outside
     (bind_is around.policy above.policy _ above fits.policy
-    (ap (λ (s : Shares). Some (record { server = above.server; times = above.times; calculated = above.calculated; shares = s; outside = above.outside; bare = around.bare; policy = above.policy })) fits.shares
-    ∙ ap (λ (b : Bool). Some (record { server = above.server; times = above.times; calculated = above.calculated; shares = above.shares; outside = above.outside; bare = b; policy = above.policy })) fits.bare)))))
+    (bind_is around.boot above.boot _ above fits.boot
+    (ap (λ (s : Shares). Some (record { server = above.server; times = above.times; calculated = above.calculated; shares = s; outside = above.outside; bare = around.bare; policy = above.policy; boot = above.boot })) fits.shares
+    ∙ ap (λ (b : Bool). Some (record { server = above.server; times = above.times; calculated = above.calculated; shares = above.shares; outside = above.outside; bare = b; policy = above.policy; boot = above.boot })) fits.bare))))))
 
 pub below_known : (given : Option Above) (above : Above) (known : List Definition) (d : Data) (subnet : Subnet) → given ≡ Some above → kea_subnet above known d ≡ Some subnet → kea_below given known d ≡ Some tt
 below_known given above known d subnet e f =

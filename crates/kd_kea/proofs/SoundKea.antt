@@ -13,8 +13,10 @@ use Rattle.kd_json.specs.Sound.{AreSettings, IsEntry}
 use Rattle.kd_json.specs.Values.{text_if_given}
 use Rattle.kd_json.specs.declared.objects.class.ClassEntry.{ClassEntry}
 use Rattle.kd_json.specs.declared.objects.settings.Settings.{Settings}
+use Rattle.kd_kea.proofs.SoundBoot.{boot_sound, own_sound}
 use Rattle.kd_kea.proofs.SoundNetworks.{subnets_sound}
 use Rattle.kd_kea.proofs.Sounds.{all_sound, options_sound, server_sound, times_sound}
+use Rattle.kd_kea.specs.Boot.{kea_boot, own_boot}
 use Rattle.kd_kea.specs.Class.{kea_class_options, kea_class}
 use Rattle.kd_kea.specs.Definitions.{kea_definitions, kea_known}
 use Rattle.kd_kea.specs.HostName.{server_has_bare_names}
@@ -47,10 +49,12 @@ entry_sound known d entry e =
     let name = came_from (option_and_then class_name_in (get (codes "name") d)) _ entry keys.1 in
     let text = came_from (text_if_given (get (codes "test") d)) _ entry name.gives in
     let options = came_from (kea_class_options known d) _ entry text.gives in
+    let boot = came_from (own_boot d) _ entry options.gives in
     let value = came_from (get (codes "name") d) class_name_in name.first name.is in
-    subst IsEntry (some_is _ entry options.gives) (record {
+    subst IsEntry (some_is _ entry boot.gives) (record {
       name = name_sound value.first name.first value.gives;
       options = class_options_sound known d options.first options.is;
+      boot = own_sound d boot.first boot.is;
     })
 
 dhcp4_sound : (server : Option ℕ) (d : Data) (s : Settings) → kea_dhcp4 server d ≡ Some s → AreSettings s
@@ -62,13 +66,14 @@ dhcp4_sound server d s e =
     let times = came_from (kea_times calculated.first d) _ s shares.1 in
     let outside = came_from (flag_given (get (codes "reservations-out-of-pool") d)) _ s times.gives in
     let policy = came_from (kea_policy d) _ s outside.gives in
-    let known = came_from (kea_known (get (codes "option-def") d)) _ s policy.gives in
+    let boot = came_from (kea_boot d) _ s policy.gives in
+    let known = came_from (kea_known (get (codes "option-def") d)) _ s boot.gives in
     let options = came_from (kea_options true known.first (get (codes "option-data") d)) _ s known.gives in
     let address = came_from (server_address options.first server) _ s options.gives in
-    let above : Above = record { server = address.first; times = times.first; calculated = calculated.first; shares = shares_given d; outside = outside.first; bare = server_has_bare_names d; policy = policy.first } in
+    let above : Above = record { server = address.first; times = times.first; calculated = calculated.first; shares = shares_given d; outside = outside.first; bare = server_has_bare_names d; policy = policy.first; boot = boot.first } in
     let classes = came_from (list_of 256 (kea_class known.first) (get (codes "client-classes") d)) _ s address.gives in
     let subnets = came_from (kea_subnets above known.first d) _ s classes.gives in
-    let sound = subnets_sound above known.first d subnets.first subnets.is in
+    let sound = subnets_sound above (boot_sound d boot.first boot.is) known.first d subnets.first subnets.is in
     subst AreSettings (some_is _ s subnets.gives) (record {
       server = server_sound options.first server address.first address.is;
       times = times_sound calculated.first d times.first times.is;

@@ -5,14 +5,16 @@ use borrow.Author.Tests.{leb-true}
 use Rattle.serde_json.specs.Data.{Data}
 use Rattle.serde_json.specs.Find.{get}
 use Rattle.kd_config.proofs.Tests.{some_is}
-use Rattle.kd_config.specs.Sound.{AreOptions, IsSubnet}
+use Rattle.kd_config.specs.Sound.{AreOptions, IsBoot, IsSubnet}
 use Rattle.kd_config.specs.declared.subnet.Subnet.{Subnet}
 use Rattle.kd_json.proofs.Came.{came_from, each_meant, passed, passed_only}
 use Rattle.kd_json.specs.Lists.{list_of}
 use Rattle.kd_json.specs.Values.{text_if_given}
+use Rattle.kd_kea.proofs.SoundBoot.{boot_sound, or_sound}
 use Rattle.kd_kea.proofs.SoundParts.{each_of_both}
 use Rattle.kd_kea.proofs.SoundSubnets.{relays_few, subnet_sound}
 use Rattle.kd_kea.proofs.Sounds.{options_sound}
+use Rattle.kd_kea.specs.Boot.{kea_boot}
 use Rattle.kd_kea.specs.Network.{above_members, as_member, has_network_form, is_in_one_of, is_interface_of, kea_common, kea_member, kea_network, kea_subnets, may_be_of, numbered, one_class, relays_or, with_network}
 use Rattle.kd_kea.specs.Options.{kea_options}
 use Rattle.kd_kea.specs.Relay.{relays_of}
@@ -56,26 +58,29 @@ as_member_sound common subnet member shared sound e =
       reservations = sound.reservations;
       options = sound.options;
       shared = shared.options;
+      boot = sound.boot;
     })
 
-member_sound : (above : Above) (known : List Definition) (common : Common) → IsCommon common → (d : Data) (member : Subnet) → kea_member above known common d ≡ Some member → IsSubnet member
+member_sound : (above : Above) → IsBoot above.boot → (known : List Definition) (common : Common) → IsCommon common → (d : Data) (member : Subnet) → kea_member above known common d ≡ Some member → IsSubnet member
 unfolding kea_member
-member_sound above known common shared d member e =
+member_sound above given known common shared d member e =
     let subnet = came_from (kea_subnet above known d) _ member e in
-    as_member_sound common subnet.first member shared (subnet_sound above known d subnet.first subnet.is) subnet.gives
+    as_member_sound common subnet.first member shared (subnet_sound above given known d subnet.first subnet.is) subnet.gives
 
-network_sound : (above : Above) (known : List Definition) (d : Data) (members : List Subnet) → kea_network above known d ≡ Some members → AllByRecursion IsSubnet members
+network_sound : (above : Above) → IsBoot above.boot → (known : List Definition) (d : Data) (members : List Subnet) → kea_network above known d ≡ Some members → AllByRecursion IsSubnet members
 unfolding kea_network
-network_sound above known d members e =
+network_sound above given known d members e =
     let form = came_from (has_network_form above d) _ members e in
     let common = came_from (kea_common known d) _ members form.gives in
     let outside = came_from (flag_or above.outside (get (codes "reservations-out-of-pool") d)) _ members common.gives in
-    let inner = above_members above outside.first d in
-    let read = came_from (list_of 64 (kea_member inner known common.first) (get (codes "subnet4") d)) _ members outside.gives in
+    let boot = came_from (kea_boot d) _ members outside.gives in
+    let inner = above_members above outside.first boot.first d in
+    let inner_given = or_sound boot.first above.boot (boot_sound d boot.first boot.is) given in
+    let read = came_from (list_of 64 (kea_member inner known common.first) (get (codes "subnet4") d)) _ members boot.gives in
     let here = passed (is_interface_of (is_in_one_of read.first above.server) (get (codes "interface") d)) _ members read.gives in
     let shared = common_sound known d common.first common.is in
     subst (AllByRecursion IsSubnet) (some_is read.first members here.1)
-    (each_meant IsSubnet (kea_member inner known common.first) (member_sound inner known common.first shared) 64 (get (codes "subnet4") d) read.first read.is)
+    (each_meant IsSubnet (kea_member inner known common.first) (member_sound inner inner_given known common.first shared) 64 (get (codes "subnet4") d) read.first read.is)
 
 -- a number changes nothing of it
 with_network_sound : (number : ℕ) (subnet : Subnet) → IsSubnet subnet → IsSubnet (with_network number subnet)
@@ -89,6 +94,7 @@ with_network_sound number subnet sound =
       reservations = sound.reservations;
       options = sound.options;
       shared = sound.shared;
+      boot = sound.boot;
     }
 
 with_networks_sound : (number : ℕ) (subnets : List Subnet) → AllByRecursion IsSubnet subnets → AllByRecursion IsSubnet (map (with_network number) subnets)
@@ -103,15 +109,15 @@ numbered_sound number (members ∷ networks) sound =
     (with_networks_sound number members sound.0) (numbered_sound (number + 1) networks sound.1)
 
 -- the subnets of the whole server are subnets of a configuration, and at most 256
-pub subnets_sound : (above : Above) (known : List Definition) (d : Data) (subnets : List Subnet) → kea_subnets above known d ≡ Some subnets → (length subnets ≤ 256) × AllByRecursion IsSubnet subnets
+pub subnets_sound : (above : Above) → IsBoot above.boot → (known : List Definition) (d : Data) (subnets : List Subnet) → kea_subnets above known d ≡ Some subnets → (length subnets ≤ 256) × AllByRecursion IsSubnet subnets
 unfolding kea_subnets
-subnets_sound above known d subnets e =
+subnets_sound above given known d subnets e =
     let networks = came_from (list_of 256 (kea_network above known) (get (codes "shared-networks") d)) _ subnets e in
     let others = came_from (list_of 256 (kea_subnet above known) (get (codes "subnet4") d)) _ subnets networks.gives in
     let all = numbered 1 networks.first ++ others.first in
     let few = passed_only (nat_le (length all) 256) all subnets others.gives in
-    let members = each_meant (AllByRecursion IsSubnet) (kea_network above known) (network_sound above known) 256 (get (codes "shared-networks") d) networks.first networks.is in
-    let single = each_meant IsSubnet (kea_subnet above known) (subnet_sound above known) 256 (get (codes "subnet4") d) others.first others.is in (
+    let members = each_meant (AllByRecursion IsSubnet) (kea_network above known) (network_sound above given known) 256 (get (codes "shared-networks") d) networks.first networks.is in
+    let single = each_meant IsSubnet (kea_subnet above known) (subnet_sound above given known) 256 (get (codes "subnet4") d) others.first others.is in (
       subst (λ (xs : List Subnet). length xs ≤ 256) few.1 (leb-true (length all) 256 few.0),
       subst (AllByRecursion IsSubnet) few.1 (each_of_both IsSubnet (numbered 1 networks.first) others.first (numbered_sound 1 networks.first members) single),
     )

@@ -2,7 +2,7 @@
 use Rattle.std.proofs.Common.{◌≡◌, ◌≤◌, ℕ, ◌-◌, nat_lt, Bool, false, List, [], ◌∷◌, length, arith, codes, Option, None, Some, option_map, subst}
 use Rattle.std.specs.Prelude.{option_and_then}
 use Rattle.kd_config.proofs.Tests.{some_is}
-use Rattle.kd_config.specs.Sound.{IsReservation, IsSubnet}
+use Rattle.kd_config.specs.Sound.{IsBoot, IsReservation, IsSubnet}
 use Rattle.kd_config.specs.declared.pool.Pool.{Pool}
 use Rattle.kd_config.specs.declared.range.Range.{Range}
 use Rattle.kd_config.specs.declared.reservation.Reservation.{Reservation}
@@ -14,9 +14,11 @@ use Rattle.kd_json.specs.Pool.{pool_addresses}
 use Rattle.kd_json.specs.Reservation.{identity_given}
 use Rattle.kd_json.specs.Subnet.{subnet_prefix}
 use Rattle.kd_json.specs.Values.{address_given, text_if_given}
+use Rattle.kd_kea.proofs.SoundBoot.{boot_sound, listed_sound, or_sound, own_sound}
 use Rattle.kd_kea.proofs.SoundNames.{host_options_sound}
 use Rattle.kd_kea.proofs.SoundParts.{IsWide, parts_sound}
 use Rattle.kd_kea.proofs.Sounds.{options_sound}
+use Rattle.kd_kea.specs.Boot.{kea_boot, own_boot}
 use Rattle.kd_kea.specs.HostName.{has_bare_names, host_options}
 use Rattle.kd_kea.specs.Keys.{keys_are_read}
 use Rattle.kd_kea.specs.Options.{kea_options}
@@ -63,9 +65,11 @@ reservation_sound known bare d reservation e =
     let identity = came_from (identity_given d) _ reservation client.1 in
     let address = came_from (option_and_then address_given (get (codes "ip-address") d)) _ reservation identity.gives in
     let options = came_from (host_options known bare d) _ reservation address.gives in
-    subst IsReservation (some_is _ reservation options.gives) (record {
+    let boot = came_from (own_boot d) _ reservation options.gives in
+    subst IsReservation (some_is _ reservation boot.gives) (record {
       identity = given_sound d identity.first identity.is;
       options = host_options_sound known bare d options.first options.is;
+      boots = listed_sound boot.first (own_sound d boot.first boot.is);
     })
 
 -- a subnet has at most 64 relays
@@ -84,9 +88,9 @@ relays_few (Some d) relays e =
       by_keys None (Some it) h = one (address_given it) h
       by_keys (Some many) (Some it) h = absurd (cc)
 
-pub subnet_sound : (above : Above) (known : List Definition) (d : Data) (subnet : Subnet) → kea_subnet above known d ≡ Some subnet → IsSubnet subnet
+pub subnet_sound : (above : Above) → IsBoot above.boot → (known : List Definition) (d : Data) (subnet : Subnet) → kea_subnet above known d ≡ Some subnet → IsSubnet subnet
 unfolding kea_subnet kea_subnet_with
-subnet_sound above known d subnet e =
+subnet_sound above given known d subnet e =
     let form = came_from (has_subnet_form above d) _ subnet e in
     let prefix = came_from (option_and_then subnet_prefix (get (codes "subnet") d)) _ subnet form.gives in
     let here = passed (is_at_server above.server prefix.first (get (codes "interface") d)) _ subnet prefix.gives in
@@ -100,8 +104,9 @@ subnet_sound above known d subnet e =
     let reservations = came_from (list_of 4096 (kea_reservation known bare) (get (codes "reservations") d)) _ subnet pools.gives in
     let beside = passed (stand_beside outside.first pools.first reservations.first) _ subnet reservations.gives in
     let options = came_from (kea_options false known (get (codes "option-data") d)) _ subnet beside.1 in
+    let boot = came_from (kea_boot d) _ subnet options.gives in
     let value = came_from (get (codes "subnet") d) subnet_prefix prefix.first prefix.is in
-    subst IsSubnet (some_is _ subnet options.gives) (record {
+    subst IsSubnet (some_is _ subnet boot.gives) (record {
       prefix = prefix_in_sound value.first prefix.first value.gives;
       few_relays = relays_few (get (codes "relay") d) relays.first relays.is;
       few_pools = parts.0;
@@ -110,4 +115,5 @@ subnet_sound above known d subnet e =
       reservations = each_meant IsReservation (kea_reservation known bare) (reservation_sound known bare) 4096 (get (codes "reservations") d) reservations.first reservations.is;
       options = options_sound known (get (codes "option-data") d) options.first options.is;
       shared = record { few = omega arith; each = tt; own = tt };
+      boot = or_sound boot.first above.boot (boot_sound d boot.first boot.is) given;
     })

@@ -1,4 +1,5 @@
--- A client class in a configuration of Kea's: a name, a test, and options.
+-- A client class in a configuration of Kea's: a name, a test, options, and boot
+-- fields.
 use Rattle.std.specs.Prelude.{ℕ, true, false, List, ◌++◌, codes, Option, Some, None}
 use Rattle.serde_json.specs.Data.{Data}
 use Rattle.serde_json.specs.Find.{get}
@@ -9,6 +10,7 @@ use Rattle.kd_json.specs.Values.{text_if_given}
 use Rattle.kd_json.specs.declared.objects.class.ClassEntry.{ClassEntry}
 use Rattle.kd_json.specs.declared.objects.class.TestSource.{TestSource}
 use Rattle.kd_json.specs.declared.objects.class.TestSource.TheVariants.{Nothing, Expression}
+use Rattle.kd_kea.specs.Boot.{own_boot}
 use Rattle.kd_kea.specs.Definitions.{kea_definitions}
 use Rattle.kd_kea.specs.Keys.{keys_are_read}
 use Rattle.kd_kea.specs.Options.{kea_options}
@@ -35,4 +37,5 @@ kea_class known d = do
   name ← get (codes "name") d >>= class_name_in
   text ← text_if_given (get (codes "test") d)
   options ← kea_class_options known d
-  Some (record { name = name; source = source_by (unless_empty text); options = options })
+  boot ← own_boot d
+  Some (record { name = name; source = source_by (unless_empty text); options = options; boot = boot })

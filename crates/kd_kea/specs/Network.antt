@@ -5,6 +5,8 @@ use Rattle.std.specs.Prelude.{ℕ, ◌+◌, Bool, true, false, ◌||◌, not, Li
 use Rattle.std.specs.List.{list_all, list_any}
 use Rattle.serde_json.specs.Data.{Data, string}
 use Rattle.serde_json.specs.Find.{as_str, get}
+use Rattle.kd_classes.specs.Boot.{boot_or}
+use Rattle.kd_classes.specs.declared.boot.Boot.{Boot}
 use Rattle.kd_config.specs.Address.{has_address}
 use Rattle.kd_config.specs.declared.pool.Pool.{Pool}
 use Rattle.kd_config.specs.declared.reservation.Reservation.{Reservation}
@@ -12,6 +14,7 @@ use Rattle.kd_config.specs.declared.subnet.Subnet.{Subnet}
 use Rattle.kd_json.specs.Lists.{list_of}
 use Rattle.kd_json.specs.Steps.{must, only_if}
 use Rattle.kd_json.specs.Values.{text_if_given}
+use Rattle.kd_kea.specs.Boot.{kea_boot}
 use Rattle.kd_kea.specs.HostName.{has_bare_names}
 use Rattle.kd_kea.specs.Keys.{is_plain, keys_are_read, word}
 use Rattle.kd_kea.specs.Options.{kea_options}
@@ -66,7 +69,7 @@ unfoldable pub as_member : Common → Subnet → Option Subnet
 as_member common subnet = do
   class ← one_class subnet.class common.class
   _ ← must (may_be_of class subnet.pools subnet.reservations)
-  Some (record { prefix = subnet.prefix; relays = relays_or subnet.relays common.relays; class = class; pools = subnet.pools; reservations = subnet.reservations; options = subnet.options; network = 0; shared = common.options })
+  Some (record { prefix = subnet.prefix; relays = relays_or subnet.relays common.relays; class = class; pools = subnet.pools; reservations = subnet.reservations; options = subnet.options; network = 0; shared = common.options; boot = subnet.boot })
 
 -- the member that a value describes
 unfoldable pub kea_member : Above → List Definition → Common → Data → Option Subnet
@@ -90,9 +93,9 @@ kea_common known d = do
   options ← kea_options false known (get (codes "option-data") d)
   Some (record { relays = relays; class = unless_empty class; options = options })
 
--- what holds above the members of a network
-abbrev pub above_members : Above → Bool → Data → Above
-above_members above outside d =
+-- what holds above the members of a network, which gives this to the boot fields
+abbrev pub above_members : Above → Bool → Boot → Data → Above
+above_members above outside boot d =
     record {
       server = above.server;
       times = above.times;
@@ -101,6 +104,7 @@ above_members above outside d =
       outside = outside;
       bare = has_bare_names above.bare d;
       policy = above.policy;
+      boot = boot_or boot above.boot;
     }
 
 -- the members of the network that a value describes, below what holds for the whole server
@@ -109,7 +113,8 @@ kea_network above known d = do
   _ ← has_network_form above d
   common ← kea_common known d
   outside ← flag_or above.outside (get (codes "reservations-out-of-pool") d)
-  members ← list_of 64 (kea_member (above_members above outside d) known common) (get (codes "subnet4") d)
+  boot ← kea_boot d
+  members ← list_of 64 (kea_member (above_members above outside boot d) known common) (get (codes "subnet4") d)
   _ ← must (is_interface_of (is_in_one_of members above.server) (get (codes "interface") d))
   Some members
 
@@ -125,6 +130,7 @@ with_network number subnet =
       options = subnet.options;
       network = number;
       shared = subnet.shared;
+      boot = subnet.boot;
     }
 
 -- the members of networks, each with the number of its network: this one for the first

@@ -7,6 +7,8 @@ use Rattle.std.specs.Prelude.{ℕ, ◌+◌, Bool, true, false, ◌||◌, if◌th
 use Rattle.std.specs.List.{flat_map, list_any}
 use Rattle.serde_json.specs.Data.{Data, Items, no_items, item, Members, no_members, member}
 use Rattle.serde_json.specs.Find.{as_array, as_object, as_str, get}
+use Rattle.kd_classes.specs.Boot.{boot_or}
+use Rattle.kd_classes.specs.declared.boot.Boot.{Boot}
 use Rattle.kd_config.specs.Address.{has_address}
 use Rattle.kd_config.specs.Sound.{longest_lease}
 use Rattle.kd_config.specs.declared.prefix.Prefix.{Prefix}
@@ -17,6 +19,7 @@ use Rattle.kd_json.specs.FirstFault.{path_below}
 use Rattle.kd_json.specs.Lists.{items_or_none, list_of}
 use Rattle.kd_json.specs.Subnet.{subnet_prefix}
 use Rattle.kd_json.specs.Values.{number_if_given, text_if_given}
+use Rattle.kd_kea.specs.Boot.{field_given, kea_boot, next_server_given}
 use Rattle.kd_kea.specs.Class.{kea_class}
 use Rattle.kd_kea.specs.Definitions.{kea_definition, kea_definitions, kea_known, standard_records, usual_vendor}
 use Rattle.kd_kea.specs.HostName.{has_bare_names, host_name, may_be_named, server_has_bare_names}
@@ -261,7 +264,7 @@ all_times d = do
 -- what holds for the whole server by the value of `Dhcp4`, each part if it is right by itself
 unfoldable pub around_of : Option ℕ → Data → Around
 around_of server d =
-    record { address = kea_address server d; times = all_times d; calculated = flag_given (get (codes "calculate-tee-times") d); shares = shares_given d; outside = flag_given (get (codes "reservations-out-of-pool") d); bare = server_has_bare_names d; policy = kea_policy d; lifetime = lifetime_in d; renew = renew_in d; rebind = rebind_in d }
+    record { address = kea_address server d; times = all_times d; calculated = flag_given (get (codes "calculate-tee-times") d); shares = shares_given d; outside = flag_given (get (codes "reservations-out-of-pool") d); bare = server_has_bare_names d; policy = kea_policy d; boot = kea_boot d; lifetime = lifetime_in d; renew = renew_in d; rebind = rebind_in d }
 
 -- what holds for the whole server, if all of it is right
 unfoldable pub above_by : Around → Option Above
@@ -271,7 +274,8 @@ above_by around = do
   calculated ← around.calculated
   outside ← around.outside
   policy ← around.policy
-  Some (record { server = server; times = times; calculated = calculated; shares = around.shares; outside = outside; bare = around.bare; policy = policy })
+  boot ← around.boot
+  Some (record { server = server; times = times; calculated = calculated; shares = around.shares; outside = outside; bare = around.bare; policy = policy; boot = boot })
 
 -- the note on whether the times of a subnet are calculated, which is as for the whole server
 abbrev pub calculated_notes : Option Bool → ObjectNotes
@@ -328,6 +332,16 @@ number_note least most key path d =
 -- the note that the truth value at a key is wrong, unless it is absent or one
 abbrev pub flag_note : List ℕ → ObjectNotes
 flag_note key path d = note_unless (is_some (flag_given (get key d))) Wrong path key
+
+-- the notes on the keys for the boot fields that are wrong, each by itself
+unfoldable pub boot_notes : ObjectNotes
+boot_notes path d =
+    note_unless (is_some (next_server_given (get (codes "next-server") d))) Wrong path
+    (codes "next-server")
+    ++ note_unless (is_some (field_given 64 (get (codes "server-hostname") d))) Wrong path
+    (codes "server-hostname")
+    ++ note_unless (is_some (field_given 128 (get (codes "boot-file-name") d))) Wrong path
+    (codes "boot-file-name")
 
 -- the note that the text at a key is wrong, unless it is absent or one
 abbrev pub text_note : List ℕ → ObjectNotes
@@ -449,6 +463,7 @@ host_notes known bare path d =
     object_notes (is_some (kea_reservation known bare d)) path d
     (own_notes host_keys path d
     ++ name_notes bare path d
+    ++ boot_notes path d
     ++ option_notes false known path d)
 
 -- the notes of a class at a path; its own definitions come before those of the whole server
@@ -458,6 +473,7 @@ class_notes known path d =
     (own_notes class_keys path d
     ++ note_unless (is_some (get (codes "name") d >>= class_name_in)) Wrong path (codes "name")
     ++ text_note (codes "test") path d
+    ++ boot_notes path d
     ++ definition_notes true path d
     ++ option_notes false (right_definitions true d ++ known) path d)
 
@@ -499,6 +515,7 @@ subnet_own path d =
     ++ note_unless (is_some (get (codes "subnet") d >>= subnet_prefix)) Wrong path (codes "subnet")
     ++ text_note (codes "client-class") path d
     ++ flag_note (codes "reservations-out-of-pool") path d
+    ++ boot_notes path d
 
 -- the notes on the lists and the relay of a subnet, by these definitions; `bare` says that host names
 -- have no suffix above the subnet
@@ -552,6 +569,7 @@ network_own path d =
     note_unless (is_some (get (codes "name") d >>= as_str)) Wrong path (codes "name")
     ++ text_note (codes "client-class") path d
     ++ flag_note (codes "reservations-out-of-pool") path d
+    ++ boot_notes path d
 
 -- whether reservations of a network are looked for outside pools alone, if all that says so is right
 unfoldable pub outside_in : Option Bool → Data → Option Bool
@@ -559,10 +577,17 @@ outside_in given d = do
   other ← given
   flag_or other (get (codes "reservations-out-of-pool") d)
 
+-- what is given to the boot fields above the members of a network, if all that says so is right
+unfoldable pub boot_in : Option Boot → Data → Option Boot
+boot_in given d = do
+  above ← given
+  boot ← kea_boot d
+  Some (boot_or boot above)
+
 -- what holds above the members of a network, each part if it is right by itself
 unfoldable pub around_members : Around → Data → Around
 around_members around d =
-    record { address = around.address; times = around.times; calculated = around.calculated; shares = around.shares; outside = outside_in around.outside d; bare = has_bare_names around.bare d; policy = around.policy; lifetime = around.lifetime; renew = around.renew; rebind = around.rebind }
+    record { address = around.address; times = around.times; calculated = around.calculated; shares = around.shares; outside = outside_in around.outside d; bare = has_bare_names around.bare d; policy = around.policy; boot = boot_in around.boot d; lifetime = around.lifetime; renew = around.renew; rebind = around.rebind }
 
 -- the notes on the options, the members and the relay of a network, by what holds for the whole server
 -- and these definitions
@@ -590,12 +615,13 @@ network_notes around known path d =
 
 -- ---- the whole server
 
--- the notes on the truth values in the value of `Dhcp4` that are none
+-- the notes on the truth values and the boot fields in the value of `Dhcp4` that are wrong
 unfoldable pub server_flags : ObjectNotes
 server_flags path d =
     flag_note (codes "reservations-out-of-pool") path d
     ++ flag_note (codes "authoritative") path d
     ++ flag_note (codes "match-client-id") path d
+    ++ boot_notes path d
 
 -- the notes on the networks and the subnets of the whole server
 unfoldable pub all_subnet_notes : Around → List Definition → ObjectNotes

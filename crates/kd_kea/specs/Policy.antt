@@ -1,7 +1,7 @@
 -- What holds of clients for the whole server in a configuration of Kea's: whether it is authoritative,
 -- and whether it knows clients by their identifiers (Kea Administrator Reference Manual, sections
 -- Authoritative DHCPv4 Server Behavior and Using Client Identifier and Hardware Address).
-use Rattle.std.specs.Prelude.{Bool, true, false, ◌&&◌, codes, Option, Some}
+use Rattle.std.specs.Prelude.{Bool, true, ◌&&◌, codes, Option, Some}
 use Rattle.serde_json.specs.Data.{Data}
 use Rattle.serde_json.specs.Find.{get}
 use Rattle.kd_kea.specs.Keys.{flag}

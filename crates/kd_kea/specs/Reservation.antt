@@ -1,5 +1,5 @@
 -- A reservation in a configuration of Kea's: an address for the client with a hardware address or
--- an identifier, and the options of that client.
+-- an identifier, and the options and boot fields of that client.
 use Rattle.std.specs.Prelude.{Bool, List, codes, Option, Some}
 use Rattle.serde_json.specs.Data.{Data}
 use Rattle.serde_json.specs.Find.{get}
@@ -7,6 +7,7 @@ use Rattle.kd_config.specs.declared.reservation.Reservation.{Reservation}
 use Rattle.kd_json.specs.Reservation.{identity_given}
 use Rattle.kd_json.specs.Steps.{must}
 use Rattle.kd_json.specs.Values.{address_given}
+use Rattle.kd_kea.specs.Boot.{boot_listed, own_boot}
 use Rattle.kd_kea.specs.HostName.{host_options}
 use Rattle.kd_kea.specs.Keys.{keys_are_read}
 use Rattle.kd_kea.specs.Tables.{host_keys}
@@ -24,4 +25,5 @@ kea_reservation known bare d = do
   identity ← identity_given d
   address ← get (codes "ip-address") d >>= address_given
   options ← host_options known bare d
-  Some (record { identity = identity; address = address; options = options })
+  boot ← own_boot d
+  Some (record { identity = identity; address = address; options = options; boots = boot_listed boot })

@@ -7,6 +7,7 @@ use Rattle.kd_config.specs.Configuration.{kea_extensions}
 use Rattle.kd_json.specs.Lists.{list_of}
 use Rattle.kd_json.specs.Steps.{must}
 use Rattle.kd_json.specs.declared.objects.settings.Settings.{Settings}
+use Rattle.kd_kea.specs.Boot.{kea_boot}
 use Rattle.kd_kea.specs.Class.{kea_class}
 use Rattle.kd_kea.specs.Definitions.{kea_known}
 use Rattle.kd_kea.specs.HostName.{server_has_bare_names}
@@ -63,10 +64,11 @@ kea_dhcp4 server d = do
   times ← kea_times calculated d
   outside ← flag_given (get (codes "reservations-out-of-pool") d)
   policy ← kea_policy d
+  boot ← kea_boot d
   known ← kea_known (get (codes "option-def") d)
   options ← kea_options true known (get (codes "option-data") d)
   address ← server_address options server
-  kea_settings_with known options (record { server = address; times = times; calculated = calculated; shares = shares_given d; outside = outside; bare = server_has_bare_names d; policy = policy }) d
+  kea_settings_with known options (record { server = address; times = times; calculated = calculated; shares = shares_given d; outside = outside; bare = server_has_bare_names d; policy = policy; boot = boot }) d
 
 -- the settings that the value of a whole text describes
 unfoldable pub kea_root : Option ℕ → Data → Option Settings

@@ -3,6 +3,8 @@ use Rattle.std.specs.Prelude.{ℕ, Bool, true, false, not, ◌||◌, List, [], c
 use Rattle.std.specs.List.{list_all, list_any}
 use Rattle.serde_json.specs.Data.{Data, string}
 use Rattle.serde_json.specs.Find.{get}
+use Rattle.kd_classes.specs.Boot.{boot_or}
+use Rattle.kd_classes.specs.declared.boot.Boot.{Boot}
 use Rattle.kd_config.specs.Address.{has_address}
 use Rattle.kd_config.specs.Apart.{has}
 use Rattle.kd_config.specs.declared.pool.Pool.{Pool}
@@ -13,6 +15,7 @@ use Rattle.kd_json.specs.Lists.{list_of}
 use Rattle.kd_json.specs.Steps.{must}
 use Rattle.kd_json.specs.Subnet.{subnet_prefix}
 use Rattle.kd_json.specs.Values.{number_if_given, text_if_given}
+use Rattle.kd_kea.specs.Boot.{kea_boot}
 use Rattle.kd_kea.specs.HostName.{has_bare_names}
 use Rattle.kd_kea.specs.Keys.{is_plain, keys_are_read, word}
 use Rattle.kd_kea.specs.Options.{kea_options}
@@ -48,15 +51,17 @@ stand_beside outside pools reservations =
     not outside || list_all (lies_outside pools) reservations
 
 -- the subnet of a prefix and a class with the lists in a value, by these definitions of options;
--- `bare` says that host names have no suffix. It is in no network
-unfoldable pub kea_subnet_with : List Definition → Bool → Bool → Prefix → Option (List ℕ) → Data → Option Subnet
-kea_subnet_with known bare outside prefix class d = do
+-- `bare` says that host names have no suffix, and `above` is what is given to the boot fields above
+-- the subnet. It is in no network
+unfoldable pub kea_subnet_with : List Definition → Bool → Bool → Boot → Prefix → Option (List ℕ) → Data → Option Subnet
+kea_subnet_with known bare outside above prefix class d = do
   relays ← relays_of (get (codes "relay") d)
   pools ← list_of 64 (kea_pool known) (get (codes "pools") d) >>= parts_of_all
   reservations ← list_of 4096 (kea_reservation known bare) (get (codes "reservations") d)
   _ ← must (stand_beside outside pools reservations)
   options ← kea_options false known (get (codes "option-data") d)
-  Some (record { prefix = prefix; relays = relays; class = class; pools = pools; reservations = reservations; options = options; network = 0; shared = [] })
+  boot ← kea_boot d
+  Some (record { prefix = prefix; relays = relays; class = class; pools = pools; reservations = reservations; options = options; network = 0; shared = []; boot = boot_or boot above })
 
 -- a value has the keys of a subnet; its `id` is checked but not used
 unfoldable pub has_subnet_form : Above → Data → Option (Unit {0})
@@ -75,4 +80,4 @@ kea_subnet above known d = do
   _ ← must (is_at_server above.server prefix (get (codes "interface") d))
   class ← text_if_given (get (codes "client-class") d)
   outside ← flag_or above.outside (get (codes "reservations-out-of-pool") d)
-  kea_subnet_with known (has_bare_names above.bare d) outside prefix (unless_empty class) d
+  kea_subnet_with known (has_bare_names above.bare d) outside above.boot prefix (unless_empty class) d

@@ -10,12 +10,12 @@ use Rattle.kd_kea.specs.declared.tables.ObjectKind.TheVariants as kinds
 abbrev pub remarks : List (List ℕ × KeyUse)
 remarks = (codes "comment", skipped) ∷ (codes "user-context", skipped) ∷ []
 
--- the fields of a reply for booting, each empty
+-- the fields of a reply by which its client boots
 abbrev pub boot_keys : List (List ℕ × KeyUse)
 boot_keys =
-    (codes "next-server", usual (word [] ∷ word (codes "0.0.0.0") ∷ []))
-    ∷ (codes "server-hostname", usual (word [] ∷ []))
-    ∷ (codes "boot-file-name", usual (word [] ∷ []))
+    (codes "next-server", served)
+    ∷ (codes "server-hostname", served)
+    ∷ (codes "boot-file-name", served)
     ∷ []
 
 -- the keys that the whole server, a shared network and a subnet have in common

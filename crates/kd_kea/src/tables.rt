@@ -44,8 +44,6 @@ const NO_THRESHOLD: KeyRule = KeyRule::Usual(&[
 ]);
 // The values of a key that names nothing.
 const NO_TEXT: KeyRule = KeyRule::Usual(&[UsualValue::Text("")]);
-
-const NEITHER: KeyRule = KeyRule::Usual(&[UsualValue::Text(""), UsualValue::Text("0.0.0.0")]);
 // The value of a key that lists nothing.
 const NO_LIST: KeyRule = KeyRule::Usual(&[UsualValue::EmptyList]);
 
@@ -55,11 +53,11 @@ const REMARKS: &[Row] = &[
     ("user-context", KeyRule::Skipped),
 ];
 
-// Fields of a reply for booting.
+// Fields of a reply by which its client boots.
 const BOOT: &[Row] = &[
-    ("next-server", NEITHER),
-    ("server-hostname", NO_TEXT),
-    ("boot-file-name", NO_TEXT),
+    ("next-server", KeyRule::Served),
+    ("server-hostname", KeyRule::Served),
+    ("boot-file-name", KeyRule::Served),
 ];
 
 // Keys that the whole server, a shared network and a subnet have in common.

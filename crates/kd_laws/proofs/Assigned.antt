@@ -13,7 +13,7 @@ use Rattle.kd_event.specs.declared.reason.Reason.{Reason}
 use Rattle.kd_lease.specs.Choice.{Asking, Rank, address_reserved, client_reservation, contained, fitting_for, free_for, has_rank, has_such, held_row, is_from, live_row, past_row, pool_gives, pooled, reserved_anywhere, same_address, usable}
 use Rattle.kd_lease.specs.Choice.Rank.{reserved as reserved_rank, own, past, asked, fresh, expired}
 use Rattle.kd_lease.specs.Laws.{EndsAreFounded, IsFounded}
-use Rattle.kd_lease.specs.Plan.{Outcome, ReplyOption}
+use Rattle.kd_lease.specs.Plan.{Content, Outcome}
 use Rattle.kd_lease.specs.Plan.Outcome.{planned, quiet}
 use Rattle.kd_lease.specs.Client.{requested_address}
 use Rattle.kd_lease.specs.Rules.{Does, IsReplyOf, IsSilent, Makes, client_has, declined_row, ending, kept_subnet, lasting_for, released_row, renewable, rule_of, serving_subnet}
@@ -94,7 +94,7 @@ ranked_fits q s expired a h =
 
 -- a reply, if there is one, assigns an address of 32 bits, or zero
 Assigns32 : Outcome → Type 0
-Assigns32 (planned kind a options) = a < 2 ^ 32
+Assigns32 (planned kind a content) = a < 2 ^ 32
 Assigns32 (quiet reason) = Unit {0}
 
 -- no reply assigns none
@@ -105,7 +105,7 @@ quiet_32 reason outcome is = subst Assigns32 (sym is) tt
 -- a reply assigns such an address if the address that it is to assign is one
 reply_32 : (kind : PlanKind) (a : ℕ) (outcome : Outcome) → a < 2 ^ 32 → IsReplyOf kind a outcome → Assigns32 outcome
 unfolding Assigns32
-reply_32 kind a (planned its b options) small h = omega (arith, small, h.1)
+reply_32 kind a (planned its b content) small h = omega (arith, small, h.1)
 reply_32 kind a (quiet reason) small h = absurd h
 
 module _ (founded : EndsAreFounded) (q : Asking) (sound : IsSound q.config) (set : Option Row) (outcome : Outcome) where
@@ -147,8 +147,8 @@ module _ (founded : EndsAreFounded) (q : Asking) (sound : IsSound q.config) (set
   made_32 type about (ends.Quiet reason) rests h = quiet_32 reason outcome h.1
 
 -- a planned reply assigns an address of 32 bits, or zero
-pub assigned_32 : EndsAreFounded → (q : Asking) (set : Option Row) (kind : PlanKind) (a : ℕ) (options : List ReplyOption) → IsSound q.config → Does q set (planned kind a options) → a < 2 ^ 32
+pub assigned_32 : EndsAreFounded → (q : Asking) (set : Option Row) (kind : PlanKind) (a : ℕ) (content : Content) → IsSound q.config → Does q set (planned kind a content) → a < 2 ^ 32
 unfolding Assigns32
-assigned_32 founded q set kind a options sound does =
+assigned_32 founded q set kind a content sound does =
     let sets = does.sets in
-    made_32 founded q sound set (planned kind a options) does.type sets.address (ending q sets.address (rule_of q does.type)) (founded q does.type sets.address sets.about) sets.makes
+    made_32 founded q sound set (planned kind a content) does.type sets.address (ending q sets.address (rule_of q does.type)) (founded q does.type sets.address sets.about) sets.makes

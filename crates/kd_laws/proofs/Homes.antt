@@ -10,7 +10,7 @@ use Rattle.kd_config.specs.Apart.{lie_apart}
 use Rattle.kd_config.specs.Configuration.{Configuration}
 use Rattle.kd_config.specs.Networks.{home_of, is_part, network_at, network_count, network_of, networks_in, part_holding, pool_for, pools_within, reservations_within, value_or}
 use Rattle.kd_config.specs.Rules.{all_obey, is_new, lies_within, may_all_reserve, may_reserve, may_stand, obeys, pool_ranges, reserved}
-use Rattle.kd_config.specs.Sound.{AreOptions, IsPool, IsPrefix, IsReservation, IsSound, IsSubnet}
+use Rattle.kd_config.specs.Sound.{AreOptions, IsBoot, IsPool, IsPrefix, IsReservation, IsSound, IsSubnet}
 use Rattle.kd_config.specs.declared.pool.Pool.{Pool}
 use Rattle.kd_config.specs.declared.prefix.Prefix.{Prefix}
 use Rattle.kd_config.specs.declared.reservation.Identity.{Identity}
@@ -50,7 +50,7 @@ range-each : {B : Type 0} (Q : B → Type 0) (f : ℕ → B) → ((n : ℕ) → 
 range-each Q f step a zero = tt
 range-each Q f step a (suc n) = (step a, range-each Q f step (a + 1) n)
 
-flat-each : {A B : Type 0} (P : A → Type 0) (Q : B → Type 0) (f : A → List B) → ((x : A) → P x → AllByRecursion Q (f x)) → (xs : List A) → AllByRecursion P xs → AllByRecursion Q (flat_map f xs)
+pub flat-each : {A B : Type 0} (P : A → Type 0) (Q : B → Type 0) (f : A → List B) → ((x : A) → P x → AllByRecursion Q (f x)) → (xs : List A) → AllByRecursion P xs → AllByRecursion Q (flat_map f xs)
 flat-each P Q f step [] each = tt
 flat-each P Q f step (x ∷ xs) each = each-append Q (f x) (flat_map f xs) (step x each.0) (flat-each P Q f step xs each.1)
 
@@ -62,6 +62,7 @@ pub record ServesPool (pool : Pool) : Type 0 where
 -- a reservation: likewise
 pub record ServesClient (reservation : Reservation) : Type 0 where
   pub options : AreOptions reservation.options
+  pub boots : AllByRecursion IsBoot reservation.boots
   pub address : reservation.address < 2 ^ 32
 
 -- a subnet in which messages are served
@@ -70,6 +71,7 @@ pub record Serves (s : Subnet) : Type 0 where
   pub reservations : AllByRecursion ServesClient s.reservations
   pub options : AreOptions s.options
   pub shared : AreOptions s.shared
+  pub boot : IsBoot s.boot
 
 -- ---- subnets of a sound configuration
 
@@ -94,7 +96,7 @@ clients_serve prefix earlier clients (r ∷ rs) is may each =
     let more = may_all_reserve prefix (earlier ++ r.address ∷ []) (clients ++ r.identity ∷ []) rs in
     let parts = and_parts (may_reserve prefix earlier r) (is_new clients r.identity && more) may in
     let here = and_parts (has_address prefix r.address) (not (list_any (nat_eq r.address) earlier)) parts.0 in (
-      record { options = each.0.options; address = within_32 prefix r.address is here.0 },
+      record { options = each.0.options; boots = each.0.boots; address = within_32 prefix r.address is here.0 },
       clients_serve prefix (earlier ++ r.address ∷ []) (clients ++ r.identity ∷ []) rs is (and_parts (is_new clients r.identity) more parts.1).1 each.1,
     )
 
@@ -108,6 +110,7 @@ obeying earlier s sound obey =
       reservations = clients_serve s.prefix earlier [] s.reservations sound.prefix rules.1 sound.reservations;
       options = sound.options;
       shared = sound.shared;
+      boot = sound.boot;
     }
 
 each_serves : (earlier : List ℕ) (subnets : List Subnet) → all_obey earlier subnets ≡ true → AllByRecursion IsSubnet subnets → AllByRecursion Serves subnets
@@ -146,56 +149,66 @@ network_serves subnets each n = record {
   reservations = flat-each Serves ServesClient (reservations_within n) (clients_of_part n) subnets each;
   options = no_options;
   shared = no_options;
+  boot = record { next_server = tt; server_name = tt; file_name = tt };
 }
 
-at_serves : (subnets : List Subnet) → AllByRecursion Serves subnets → (n : ℕ) → IfSome (network_at subnets n) Serves
-at_serves subnets each n = by (n == 0) where
-  by : (b : Bool) → IfSome (if b then None else slice_get (networks_in subnets) (n - 1)) Serves
-  by true = tt
-  by false = get-each Serves (networks_in subnets) (n - 1) (range-each Serves (λ i. network_of subnets (i + 1)) (λ i. network_serves subnets each (i + 1)) 0 (network_count subnets))
+-- ---- what holds of each subnet, and so of each network, holds of those in which messages are served
 
-or_serves : (found : Option Subnet) (s : Subnet) → IfSome found Serves → Serves s → Serves (value_or found s)
-or_serves None s there is = is
-or_serves (Some t) s there is = there
+module _ (P : Subnet → Type 0) (joins : (subnets : List Subnet) → AllByRecursion P subnets → (n : ℕ) → P (network_of subnets n)) where
+  at_network : (subnets : List Subnet) → AllByRecursion P subnets → (n : ℕ) → IfSome (network_at subnets n) P
+  at_network subnets each n = by (n == 0) where
+    by : (b : Bool) → IfSome (if b then None else slice_get (networks_in subnets) (n - 1)) P
+    by true = tt
+    by false = get-each P (networks_in subnets) (n - 1) (range-each P (λ i. network_of subnets (i + 1)) (λ i. joins subnets each (i + 1)) 0 (network_count subnets))
 
--- so does the subnet in which a client of one of them is served
-home_serves : (subnets : List Subnet) → AllByRecursion Serves subnets → (s : Subnet) → Serves s → Serves (home_of subnets s)
-home_serves subnets each s is = or_serves (network_at subnets s.network) s (at_serves subnets each s.network) is
+  or_else : (found : Option Subnet) (s : Subnet) → IfSome found P → P s → P (value_or found s)
+  or_else None s there is = is
+  or_else (Some t) s there is = there
 
--- and the part of it that has an address
+  -- the subnet in which a client of one of them is served
+  at_home : (subnets : List Subnet) → AllByRecursion P subnets → (s : Subnet) → P s → P (home_of subnets s)
+  at_home subnets each s is = or_else (network_at subnets s.network) s (at_network subnets each s.network) is
+
+  -- the part of it that has an address
+  pub at_part : (subnets : List Subnet) → AllByRecursion P subnets → (s : Subnet) (a : ℕ) → P s → P (part_holding subnets s a)
+  at_part subnets each s a is = by (s.network == 0) where
+    by : (b : Bool) → P (if b then s else value_or (find (is_part s.network a) subnets) s)
+    by true = is
+    by false = or_else (find (is_part s.network a) subnets) s (find-each P (is_part s.network a) subnets each) is
+
+  at_homes : (subnets : List Subnet) → AllByRecursion P subnets → (found : Option Subnet) → IfSome found P → IfSome (option_map (home_of subnets) found) P
+  at_homes subnets each None there = tt
+  at_homes subnets each (Some s) there = at_home subnets each s there
+
+  -- the subnet in which a message is served by its place
+  at_place : (config : Configuration) (names : List (List ℕ)) (m : Seen) → AllByRecursion P config.subnets → IfSome (subnet_serving config names m) P
+  unfolding subnet_serving
+  at_place config names m each =
+      at_homes config.subnets each (first_serving config names m)
+      (find-each P (served_by (is_by_relay config names m) (message_place config m) names) config.subnets each)
+
+  -- the subnet in which its client keeps a lease
+  at_kept : (q : Asking) → AllByRecursion P q.config.subnets → IfSome (kept_subnet q) P
+  at_kept q each = by (q.config.extensions.keeps_leases && renews_lease q.rows q.message q.now q.client) where
+    a : ℕ
+    a = q.message.header.ciaddr
+
+    by : (b : Bool) → IfSome (if b then subnet_keeping q.config.subnets a else None) P
+    by true = at_homes q.config.subnets each (find (has_to_keep a) q.config.subnets) (find-each P (has_to_keep a) q.config.subnets each)
+    by false = tt
+
+  at_either : (kept other : Option Subnet) → IfSome kept P → IfSome other P → IfSome (option_or kept other) P
+  at_either None other here there = there
+  at_either (Some s) other here there = here
+
+  -- the subnet in which a message is served
+  pub at_serving : (q : Asking) → AllByRecursion P q.config.subnets → IfSome (serving_subnet q) P
+  at_serving q each = at_either (kept_subnet q) (subnet_serving q.config q.names q.message) (at_kept q each) (at_place q.config q.names q.message each)
+
+-- so the part of a subnet that has an address serves
 pub part_serves : (subnets : List Subnet) → AllByRecursion Serves subnets → (s : Subnet) (a : ℕ) → Serves s → Serves (part_holding subnets s a)
-part_serves subnets each s a is = by (s.network == 0) where
-  by : (b : Bool) → Serves (if b then s else value_or (find (is_part s.network a) subnets) s)
-  by true = is
-  by false = or_serves (find (is_part s.network a) subnets) s (find-each Serves (is_part s.network a) subnets each) is
+part_serves subnets each s a is = at_part Serves network_serves subnets each s a is
 
-homes : (subnets : List Subnet) → AllByRecursion Serves subnets → (found : Option Subnet) → IfSome found Serves → IfSome (option_map (home_of subnets) found) Serves
-homes subnets each None there = tt
-homes subnets each (Some s) there = home_serves subnets each s there
-
--- the subnet in which a message is served by its place
-place_serves : (config : Configuration) (names : List (List ℕ)) (m : Seen) → AllByRecursion Serves config.subnets → IfSome (subnet_serving config names m) Serves
-unfolding subnet_serving
-place_serves config names m each =
-    homes config.subnets each (first_serving config names m)
-    (find-each Serves (served_by (is_by_relay config names m) (message_place config m) names) config.subnets each)
-
--- the subnet in which its client keeps a lease
-kept_serves : (q : Asking) → AllByRecursion Serves q.config.subnets → IfSome (kept_subnet q) Serves
-kept_serves q each = by (q.config.extensions.keeps_leases && renews_lease q.rows q.message q.now q.client) where
-  a : ℕ
-  a = q.message.header.ciaddr
-
-  by : (b : Bool) → IfSome (if b then subnet_keeping q.config.subnets a else None) Serves
-  by true = homes q.config.subnets each (find (has_to_keep a) q.config.subnets) (find-each Serves (has_to_keep a) q.config.subnets each)
-  by false = tt
-
-either_serves : (kept other : Option Subnet) → IfSome kept Serves → IfSome other Serves → IfSome (option_or kept other) Serves
-either_serves None other here there = there
-either_serves (Some s) other here there = here
-
--- so the subnet in which a message is served
+-- and the subnet in which a message is served
 pub serving_serves : (q : Asking) → IsSound q.config → IfSome (serving_subnet q) Serves
-serving_serves q sound =
-    let each = all_serve q.config.subnets sound.subnets.together sound.subnets.each in
-    either_serves (kept_subnet q) (subnet_serving q.config q.names q.message) (kept_serves q each) (place_serves q.config q.names q.message each)
+serving_serves q sound = at_serving Serves network_serves q (all_serve q.config.subnets sound.subnets.together sound.subnets.each)

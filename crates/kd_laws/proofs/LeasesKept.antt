@@ -11,7 +11,7 @@ use Rattle.kd_lease.specs.Change.{after, asked_for}
 use Rattle.kd_lease.specs.Choice.{Asking, live_row}
 use Rattle.kd_lease.specs.Client.{identity_under}
 use Rattle.kd_lease.specs.Laws.{EndsAreFounded, HeldHasNoRank, HeldIsNotGiven, HeldIsNotUsable, SetsNow}
-use Rattle.kd_lease.specs.Plan.{Outcome, ReplyOption}
+use Rattle.kd_lease.specs.Plan.{Content, Outcome}
 use Rattle.kd_lease.specs.Plan.Outcome.{planned, quiet}
 use Rattle.kd_lease.specs.Kept.{bound_state}
 use Rattle.kd_lease.specs.Rules.{Sets, leased_row}
@@ -246,36 +246,36 @@ module _ (get_of_set : GetOfSet) (latest_of_set : LatestOfSet) (sets_now : SetsN
 
   -- a step that leases an address leaves it safe
   leased_safe : (e : LeaseStep) (a : ℕ) (client : List ℕ) → Happens e e.outcome → GivesLease e client a → IsSafe e.after a client (now_of e) (lifetime_of e)
-  leased_safe e a client happens l = ⊎_elim silent by_rule (ruled e.config e.before c.names e.message (now_of e) c.set (planned kinds.Ack a l.options) c.decides) where
-    c : ChangesTo e (planned kinds.Ack a l.options)
+  leased_safe e a client happens l = ⊎_elim silent by_rule (ruled e.config e.before c.names e.message (now_of e) c.set (planned kinds.Ack a l.content) c.decides) where
+    c : ChangesTo e (planned kinds.Ack a l.content)
     c = subst (Happens e) l.ack happens
 
-    silent : (c.set ≡ None) × ((reason : Reason) × (planned kinds.Ack a l.options ≡ quiet reason)) → IsSafe e.after a client (now_of e) (lifetime_of e)
+    silent : (c.set ≡ None) × ((reason : Reason) × (planned kinds.Ack a l.content ≡ quiet reason)) → IsSafe e.after a client (now_of e) (lifetime_of e)
     silent s = let h = s.1.1 in cc
 
-    by_rule : Ruled e.config e.before c.names e.message (now_of e) c.set (planned kinds.Ack a l.options) → IsSafe e.after a client (now_of e) (lifetime_of e)
+    by_rule : Ruled e.config e.before c.names e.message (now_of e) c.set (planned kinds.Ack a l.content) → IsSafe e.after a client (now_of e) (lifetime_of e)
     by_rule r =
         let q = asked_for e.config e.before c.names e.message (now_of e) r.client in
-        let is : c.set ≡ Some (leased_row q a) = acked q r.does.type c.set a l.options r.does.sets in
+        let is : c.set ≡ Some (leased_row q a) = acked q r.does.type c.set a l.content r.does.sets in
         let becomes : e.after ≡ with_row (leased_row q a) e.before = c.becomes ∙ ap (after e.before) is in
         subst (λ (rows : List Row). IsSafe rows a client (now_of e) (lifetime_of e)) (sym becomes)
         (lease_safe q a client (same_Some r.client client (sym r.by ∙ l.by)) (omega arith))
 
   -- a reply gives an address of a client to another only when the lifetime has passed
-  given_by : (f : LeaseStep) (a : ℕ) (client other : List ℕ) (start time : ℕ) (outcome : Outcome) (options : List ReplyOption) → (outcome ≡ planned kinds.Offer a options) ⊎ (outcome ≡ planned kinds.Ack a options)
+  given_by : (f : LeaseStep) (a : ℕ) (client other : List ℕ) (start time : ℕ) (outcome : Outcome) (content : Content) → (outcome ≡ planned kinds.Offer a content) ⊎ (outcome ≡ planned kinds.Ack a content)
       → (c : ChangesTo f outcome) (r : Ruled f.config f.before c.names f.message (now_of f) c.set outcome)
       → identity_under f.config f.message ≡ Some other → other ≢ client → Holds f.before a client (start + time) → start + time ≤ now_of f
-  given_by f a client other start time outcome options gives c r by apart h = by_live (cases_Bool (live_row (now_of f) h.row)) where
+  given_by f a client other start time outcome content gives c r by apart h = by_live (cases_Bool (live_row (now_of f) h.row)) where
     others : belongs_to r.client h.row ≡ false
     others = false_from_ne_true (belongs_to r.client h.row) (λ own.
         apart (same_Some other r.client (sym by ∙ r.by) ∙ sym ((bytes_decides h.row.client r.client).0 own) ∙ h.own))
 
-    unfair : live_row (now_of f) h.row ≡ true → (outcome ≡ planned kinds.Offer a options) ⊎ (outcome ≡ planned kinds.Ack a options) → ⊥
+    unfair : live_row (now_of f) h.row ≡ true → (outcome ≡ planned kinds.Offer a content) ⊎ (outcome ≡ planned kinds.Ack a content) → ⊥
     unfair live (inl e) =
-        not_given (asked_for f.config f.before c.names f.message (now_of f) r.client) r.does.type c.set a options h.row (record { there = h.there; live = live; other = others })
+        not_given (asked_for f.config f.before c.names f.message (now_of f) r.client) r.does.type c.set a content h.row (record { there = h.there; live = live; other = others })
         (inl (subst (λ (y : Outcome). Sets (asked_for f.config f.before c.names f.message (now_of f) r.client) r.does.type c.set y) e r.does.sets))
     unfair live (inr e) =
-        not_given (asked_for f.config f.before c.names f.message (now_of f) r.client) r.does.type c.set a options h.row (record { there = h.there; live = live; other = others })
+        not_given (asked_for f.config f.before c.names f.message (now_of f) r.client) r.does.type c.set a content h.row (record { there = h.there; live = live; other = others })
         (inr (subst (λ (y : Outcome). Sets (asked_for f.config f.before c.names f.message (now_of f) r.client) r.does.type c.set y) e r.does.sets))
 
     by_live : (live_row (now_of f) h.row ≡ true) ⊎ (live_row (now_of f) h.row ≡ false) → start + time ≤ now_of f
@@ -284,27 +284,27 @@ module _ (get_of_set : GetOfSet) (latest_of_set : LatestOfSet) (sets_now : SetsN
 
   -- so does an OFFER
   offered_late : (f : LeaseStep) (a : ℕ) (client other : List ℕ) (start time : ℕ) → Happens f f.outcome → GivesOffer f other a → other ≢ client → Holds f.before a client (start + time) → start + time ≤ now_of f
-  offered_late f a client other start time happens o apart h = ⊎_elim silent by_rule (ruled f.config f.before c.names f.message (now_of f) c.set (planned kinds.Offer a o.options) c.decides) where
-    c : ChangesTo f (planned kinds.Offer a o.options)
+  offered_late f a client other start time happens o apart h = ⊎_elim silent by_rule (ruled f.config f.before c.names f.message (now_of f) c.set (planned kinds.Offer a o.content) c.decides) where
+    c : ChangesTo f (planned kinds.Offer a o.content)
     c = subst (Happens f) o.offer happens
 
-    silent : (c.set ≡ None) × ((reason : Reason) × (planned kinds.Offer a o.options ≡ quiet reason)) → start + time ≤ now_of f
+    silent : (c.set ≡ None) × ((reason : Reason) × (planned kinds.Offer a o.content ≡ quiet reason)) → start + time ≤ now_of f
     silent s = let e = s.1.1 in absurd cc
 
-    by_rule : Ruled f.config f.before c.names f.message (now_of f) c.set (planned kinds.Offer a o.options) → start + time ≤ now_of f
-    by_rule r = given_by f a client other start time (planned kinds.Offer a o.options) o.options (inl refl) c r o.by apart h
+    by_rule : Ruled f.config f.before c.names f.message (now_of f) c.set (planned kinds.Offer a o.content) → start + time ≤ now_of f
+    by_rule r = given_by f a client other start time (planned kinds.Offer a o.content) o.content (inl refl) c r o.by apart h
 
   -- and so does an ACK
   leased_late : (f : LeaseStep) (a : ℕ) (client other : List ℕ) (start time : ℕ) → Happens f f.outcome → GivesLease f other a → other ≢ client → Holds f.before a client (start + time) → start + time ≤ now_of f
-  leased_late f a client other start time happens l apart h = ⊎_elim silent by_rule (ruled f.config f.before c.names f.message (now_of f) c.set (planned kinds.Ack a l.options) c.decides) where
-    c : ChangesTo f (planned kinds.Ack a l.options)
+  leased_late f a client other start time happens l apart h = ⊎_elim silent by_rule (ruled f.config f.before c.names f.message (now_of f) c.set (planned kinds.Ack a l.content) c.decides) where
+    c : ChangesTo f (planned kinds.Ack a l.content)
     c = subst (Happens f) l.ack happens
 
-    silent : (c.set ≡ None) × ((reason : Reason) × (planned kinds.Ack a l.options ≡ quiet reason)) → start + time ≤ now_of f
+    silent : (c.set ≡ None) × ((reason : Reason) × (planned kinds.Ack a l.content ≡ quiet reason)) → start + time ≤ now_of f
     silent s = let e = s.1.1 in absurd cc
 
-    by_rule : Ruled f.config f.before c.names f.message (now_of f) c.set (planned kinds.Ack a l.options) → start + time ≤ now_of f
-    by_rule r = given_by f a client other start time (planned kinds.Ack a l.options) l.options (inr refl) c r l.by apart h
+    by_rule : Ruled f.config f.before c.names f.message (now_of f) c.set (planned kinds.Ack a l.content) → start + time ≤ now_of f
+    by_rule r = given_by f a client other start time (planned kinds.Ack a l.content) l.content (inr refl) c r l.by apart h
 
   -- a step gives a safe address to another only when the lifetime has passed
   given_late : (f : LeaseStep) (a : ℕ) (client other : List ℕ) (start time : ℕ) → Happens f f.outcome → GivesTo f other a → other ≢ client

@@ -1,5 +1,6 @@
 pub mod Across
 pub mod Assigned
+pub mod Booted
 pub mod CallsMade
 pub mod Homes
 pub mod Joined

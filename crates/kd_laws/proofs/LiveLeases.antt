@@ -1,12 +1,12 @@
 -- What a message does to an address whose row is a live lease: it sets a row there only for the
 -- client of the lease, which leases the address again or gives it up.
-use Rattle.std.proofs.Common.{◌≡◌, ℕ, ◌&&◌, ◌⊎◌, inl, inr, Bool, true, false, List, Option, Some, None, option_map, refl, sym, ap, ◌∙◌, subst, if◌then◌else◌}
+use Rattle.std.proofs.Common.{◌≡◌, ℕ, ◌&&◌, ◌⊎◌, inl, inr, Bool, true, false, Option, Some, None, option_map, refl, sym, ap, ◌∙◌, subst, if◌then◌else◌}
 use Rattle.std.proofs.lemmas.Bool.{and_from, and_parts, false≢true, true_from_ne_false}
 use Rattle.std.proofs.lemmas.Option.{none-some}
 use Rattle.kd_event.specs.declared.reason.Reason.{Reason}
 use Rattle.kd_lease.specs.Choice.{Asking, has_such, held_row, holding_state, live_row, usable}
 use Rattle.kd_lease.specs.Laws.{EndsAreFounded, HeldHasNoRank, HeldIsNotUsable, IsAnothers, IsFounded}
-use Rattle.kd_lease.specs.Plan.{Outcome, ReplyOption}
+use Rattle.kd_lease.specs.Plan.{Content, Outcome}
 use Rattle.kd_lease.specs.Plan.Outcome.{planned, quiet}
 use Rattle.kd_lease.specs.Kept.{bound_state}
 use Rattle.kd_lease.specs.Rules.{IsNewest, Makes, Sets, declined_row, ending, held_at, leased_row, leased_to, offered_row, offered_state, offered_to, released_row, renewable, rule_of}
@@ -147,29 +147,29 @@ not_inform : {A : Type 0} → kinds.Ack ≡ kinds.InformAck → A
 not_inform e = absurd (cc)
 
 -- and not quiet
-not_quiet : {A : Type 0} (a : ℕ) (options : List ReplyOption) (reason : Reason) → planned kinds.Ack a options ≡ quiet reason → A
-not_quiet a options reason e = absurd (cc)
+not_quiet : {A : Type 0} (a : ℕ) (content : Content) (reason : Reason) → planned kinds.Ack a content ≡ quiet reason → A
+not_quiet a content reason e = absurd (cc)
 
-lease_of : (q : Asking) (about : Option ℕ) (end : Ending) (set : Option Row) (a : ℕ) (options : List ReplyOption) → Makes q about end set (planned kinds.Ack a options) → IsLeaseOf q end set a
-lease_of q None ends.Offer set a options h = absurd h
-lease_of q (Some b) ends.Offer set a options h = not_offer h.1.0
-lease_of q None ends.Lease set a options h = absurd h
-lease_of q (Some b) ends.Lease set a options h = record { is = refl; row = h.0 ∙ ap (λ (x : ℕ). Some (leased_row q x)) (sym h.1.1) }
-lease_of q about ends.Nak set a options h = not_nak h.1.0
-lease_of q about ends.GiveBack set a options h = not_quiet a options _ h.1
-lease_of q None ends.Withhold set a options h = absurd h
-lease_of q (Some b) ends.Withhold set a options h = not_quiet a options _ h.1
-lease_of q None ends.Release set a options h = absurd h
-lease_of q (Some b) ends.Release set a options h = not_quiet a options _ h.1
-lease_of q about ends.Inform set a options h = not_inform h.1.0
-lease_of q about (ends.Quiet reason) set a options h = not_quiet a options reason h.1
+lease_of : (q : Asking) (about : Option ℕ) (end : Ending) (set : Option Row) (a : ℕ) (content : Content) → Makes q about end set (planned kinds.Ack a content) → IsLeaseOf q end set a
+lease_of q None ends.Offer set a content h = absurd h
+lease_of q (Some b) ends.Offer set a content h = not_offer h.1.0
+lease_of q None ends.Lease set a content h = absurd h
+lease_of q (Some b) ends.Lease set a content h = record { is = refl; row = h.0 ∙ ap (λ (x : ℕ). Some (leased_row q x)) (sym h.1.1) }
+lease_of q about ends.Nak set a content h = not_nak h.1.0
+lease_of q about ends.GiveBack set a content h = not_quiet a content _ h.1
+lease_of q None ends.Withhold set a content h = absurd h
+lease_of q (Some b) ends.Withhold set a content h = not_quiet a content _ h.1
+lease_of q None ends.Release set a content h = absurd h
+lease_of q (Some b) ends.Release set a content h = not_quiet a content _ h.1
+lease_of q about ends.Inform set a content h = not_inform h.1.0
+lease_of q about (ends.Quiet reason) set a content h = not_quiet a content reason h.1
 
 -- if an ACK of an address is planned, the lease is set
-pub acked : (q : Asking) (type : MessageType) (set : Option Row) (a : ℕ) (options : List ReplyOption) → Sets q type set (planned kinds.Ack a options) → set ≡ Some (leased_row q a)
-acked q type set a options h = (lease_of q h.address (ending q h.address (rule_of q type)) set a options h.makes).row
+pub acked : (q : Asking) (type : MessageType) (set : Option Row) (a : ℕ) (content : Content) → Sets q type set (planned kinds.Ack a content) → set ≡ Some (leased_row q a)
+acked q type set a content h = (lease_of q h.address (ending q h.address (rule_of q type)) set a content h.makes).row
 
 -- and it is planned only for a REQUEST
-pub requested_if : EndsAreFounded → (q : Asking) (type : MessageType) (set : Option Row) (a : ℕ) (options : List ReplyOption) → Sets q type set (planned kinds.Ack a options) → type ≡ types.Request
-requested_if founded q type set a options h =
-    let lease = lease_of q h.address (ending q h.address (rule_of q type)) set a options h.makes in
+pub requested_if : EndsAreFounded → (q : Asking) (type : MessageType) (set : Option Row) (a : ℕ) (content : Content) → Sets q type set (planned kinds.Ack a content) → type ≡ types.Request
+requested_if founded q type set a content h =
+    let lease = lease_of q h.address (ending q h.address (rule_of q type)) set a content h.makes in
     (subst (IsFounded q type h.address) lease.is (founded q type h.address h.about)).0

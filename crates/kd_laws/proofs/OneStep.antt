@@ -112,11 +112,11 @@ one_text header room options text other t o =
 -- what is sent follows from the outcome of a message
 one_response : (ports : Ports) (m : Seen) (got : Outcome) (r s : Response) → Responds ports m got r → Responds ports m got s → r ≡ s
 one_response ports m (quiet reason) r s h k = h ∙ sym k
-one_response ports m (planned kind yiaddr options) (responses.Quiet reason) s h k = absurd h
-one_response ports m (planned kind yiaddr options) (responses.Reply to text) (responses.Quiet reason) h k = absurd k
-one_response ports m (planned kind yiaddr options) (responses.Reply to text) (responses.Reply at other) h k =
+one_response ports m (planned kind yiaddr content) (responses.Quiet reason) s h k = absurd h
+one_response ports m (planned kind yiaddr content) (responses.Reply to text) (responses.Quiet reason) h k = absurd k
+one_response ports m (planned kind yiaddr content) (responses.Reply to text) (responses.Reply at other) h k =
     let places : to ≡ at = h.0 ∙ sym k.0 in
-    let texts : text ≡ other = one_text (header_of_reply kind yiaddr m.header) (reply_room m) options text other h.1 k.1 in
+    let texts : text ≡ other = one_text (header_of_reply kind yiaddr content.fields m.header) (reply_room m) content.options text other h.1 k.1 in
     λ i. responses.Reply (places i) (texts i)
 
 module _ (one : OneChange) where

@@ -1,16 +1,12 @@
 -- A client that renews its lease without a relay passes all checks, whatever its classes.
-use Rattle.std.proofs.Common.{◌≡◌, ℕ, zero, suc, ◌+◌, ◌-◌, ◌<◌, ◌≤◌, Bool, true, false, not, ◌&&◌, ◌||◌, ◌==◌, List, [], ◌∷◌, Option, None, Some, is_none, is_some, map, option_map, slice_get, refl, sym, ap, subst, ◌∙◌, arith, if◌then◌else◌, ⊎_elim}
-use Rattle.std.specs.List.{find, flat_map, list_any, range_with_len}
+use Rattle.std.proofs.Common.{◌≡◌, ℕ, Bool, true, false, not, ◌&&◌, ◌||◌, ◌==◌, List, [], ◌∷◌, Option, None, Some, is_none, is_some, option_map, refl, sym, ap, subst, ◌∙◌, if◌then◌else◌, ⊎_elim}
+use Rattle.std.specs.List.{find}
 use Rattle.std.specs.Option.{option_or}
-use Rattle.std.proofs.lemmas.Bool.{and_from, and_parts, eq-eqb, eqb-true, false≢true, or_cases, or_left, or_right}
-use Rattle.std.proofs.lemmas.List.Folds.{list_any-append}
-use Rattle.std.proofs.lemmas.Option.{none-some, same_Some, slice_get-map}
-use Rattle.std.proofs.Math.Nat.{le-max_left, le-max_right}
+use Rattle.std.proofs.lemmas.Bool.{and_from, and_parts, eqb-true, false≢true, or_cases, or_left, or_right}
 use Rattle.kd_config.specs.Address.{has_address}
-use Rattle.kd_config.specs.Apart.{has}
-use Rattle.kd_config.specs.Networks.{covers, home_of, is_part, network_at, network_count, network_of, networks_in, pool_for, pools_within, value_or}
-use Rattle.kd_config.specs.declared.pool.Pool.{Pool}
+use Rattle.kd_config.specs.Networks.{covers, home_of}
 use Rattle.kd_config.specs.declared.subnet.Subnet.{Subnet}
+use Rattle.kd_lease.proofs.Homes.{found, found_passes, home_contains, home_covers, none_among, weaker}
 use Rattle.kd_lease.proofs.Records.{known_there}
 use Rattle.kd_lease.specs.Choice.{Asking, contained, fitting_for, has_such, live_row, reserved_anywhere, reserved_in}
 use Rattle.kd_lease.specs.Client.{kind_of, named_server, requested_address}
@@ -31,122 +27,6 @@ use Rattle.kd_options.specs.declared.kind.MessageType.TheVariants as types
 use Rattle.kd_rows.specs.Table.{belongs_to, row_at}
 use Rattle.kd_rows.specs.declared.row.Row.{Row}
 use Rattle.kd_laws.specs.Renewals.{RenewalsAreKept, is_pooled_among}
-
--- ---- what is found in a list
-
-module _ {X : Type 0} where
-  -- if an element passes a test, one is found
-  found : (test : X → Bool) (xs : List X) → list_any test xs ≡ true → (x : X) × (find test xs ≡ Some x)
-  found test [] h = absurd (false≢true h)
-  found test (x ∷ xs) h = by (test x) h (found test xs) where
-    by : (b : Bool) → (b || list_any test xs) ≡ true → (list_any test xs ≡ true → (y : X) × (find test xs ≡ Some y)) → (y : X) × ((if b then Some x else find test xs) ≡ Some y)
-    by true h rest = (x, refl)
-    by false h rest = rest h
-
-  -- it passes the test
-  found_passes : (test : X → Bool) (xs : List X) (x : X) → find test xs ≡ Some x → test x ≡ true
-  found_passes test [] x h = absurd (none-some x h)
-  found_passes test (y ∷ ys) x h = by (test y) refl h (found_passes test ys x) where
-    by : (b : Bool) → test y ≡ b → (if b then Some y else find test ys) ≡ Some x → (find test ys ≡ Some x → test x ≡ true) → test x ≡ true
-    by true e h rest = subst (λ (z : X). test z ≡ true) (same_Some y x h) e
-    by false e h rest = rest h
-
-  -- so an element passes each test that it passes
-  passes_among : (test other : X → Bool) (xs : List X) (x : X) → find test xs ≡ Some x → other x ≡ true → list_any other xs ≡ true
-  passes_among test other [] x h k = absurd (none-some x h)
-  passes_among test other (y ∷ ys) x h k = by (test y) h (passes_among test other ys x) where
-    by : (b : Bool) → (if b then Some y else find test ys) ≡ Some x → (find test ys ≡ Some x → other x ≡ true → list_any other ys ≡ true) → (other y || list_any other ys) ≡ true
-    by true h rest = or_left (other y) (list_any other ys) (subst (λ (z : X). other z ≡ true) (sym (same_Some y x h)) k)
-    by false h rest = or_right (other y) (list_any other ys) (rest h k)
-
-  -- if each element that passes a test passes another, one that passes the first passes the other
-  weaker : (test other : X → Bool) → ((x : X) → test x ≡ true → other x ≡ true) → (xs : List X) → list_any test xs ≡ true → list_any other xs ≡ true
-  weaker test other each [] h = h
-  weaker test other each (x ∷ xs) h =
-      ⊎_elim (λ here. or_left (other x) (list_any other xs) (each x here)) (λ there. or_right (other x) (list_any other xs) (weaker test other each xs there)) (or_cases (test x) (list_any test xs) h)
-
-  -- if no element passes a test, none that is found does
-  none_among : (test other : X → Bool) (xs : List X) (x : X) → find test xs ≡ Some x → list_any other xs ≡ false → other x ≡ false
-  none_among test other xs x h none = by (other x) refl where
-    by : (b : Bool) → other x ≡ b → other x ≡ false
-    by true e = absurd (false≢true (sym none ∙ passes_among test other xs x h e))
-    by false e = e
-
--- ---- the subnet, or its network
-
-range_get : (a n k : ℕ) → k < n → slice_get (range_with_len a n) k ≡ Some (a + k)
-range_get a zero k less = absurd (omega (arith, less))
-range_get a (suc n) zero less = ap Some (omega arith)
-range_get a (suc n) (suc k) less = range_get (a + 1) n k (omega (arith, less)) ∙ ap Some (omega arith)
-
--- a network of one of these subnets is counted
-counted : (test : Subnet → Bool) (subnets : List Subnet) (s : Subnet) → find test subnets ≡ Some s → s.network ≤ network_count subnets
-counted test [] s h = absurd (none-some s h)
-counted test (t ∷ subnets) s h = by (test t) h (counted test subnets s) where
-  left : t.network ≤ network_count (t ∷ subnets)
-  left = le-max_left t.network (network_count subnets)
-
-  right : network_count subnets ≤ network_count (t ∷ subnets)
-  right = le-max_right t.network (network_count subnets)
-
-  by : (b : Bool) → (if b then Some t else find test subnets) ≡ Some s → (find test subnets ≡ Some s → s.network ≤ network_count subnets) → s.network ≤ network_count (t ∷ subnets)
-  by true h rest = subst (λ (x : Subnet). x.network ≤ network_count (t ∷ subnets)) (same_Some t s h) left
-  by false h rest = let here = rest h in omega (arith, here, right)
-
--- what a network's pools contain
-mapped : (class : Option (List ℕ)) (pools : List Pool) (a : ℕ) → list_any (λ p. has p.range a) (map (pool_for class) pools) ≡ list_any (λ p. has p.range a) pools
-mapped class [] a = refl
-mapped class (pool ∷ pools) a = ap (λ b. has pool.range a || b) (mapped class pools a)
-
-within : (n a : ℕ) (subnets : List Subnet) → list_any (λ s. s.network == n && contained s a) subnets ≡ true → list_any (λ p. has p.range a) (flat_map (pools_within n) subnets) ≡ true
-within n a [] h = h
-within n a (s ∷ subnets) h =
-    list_any-append (λ p. has p.range a) (pools_within n s) (flat_map (pools_within n) subnets)
-    ∙ ⊎_elim (λ here. or_left (list_any (λ p. has p.range a) (pools_within n s)) rest (own here)) (λ there. or_right (list_any (λ p. has p.range a) (pools_within n s)) rest (within n a subnets there)) (or_cases (s.network == n && contained s a) (list_any (λ t. t.network == n && contained t a) subnets) h) where
-      rest : Bool
-      rest = list_any (λ p. has p.range a) (flat_map (pools_within n) subnets)
-
-      own : (s.network == n && contained s a) ≡ true → list_any (λ p. has p.range a) (pools_within n s) ≡ true
-      own here =
-          let parts = and_parts (s.network == n) (contained s a) here in
-          ap (λ (b : Bool). list_any (λ p. has p.range a) (if b then map (pool_for s.class) s.pools else [])) parts.0 ∙ (mapped s.class s.pools a ∙ parts.1)
-
--- the home of a subnet has its addresses, and contains what its pools do
-module _ (subnets : List Subnet) (test : Subnet → Bool) (s : Subnet) (a : ℕ) (there : find test subnets ≡ Some s) (inside : has_address s.prefix a ≡ true) (pooled : contained s a ≡ true) where
-  IsHome : Subnet → Type 0
-  IsHome h = (covers subnets h a ≡ true) × (contained h a ≡ true)
-
-  alone : (s.network == 0) ≡ true → IsHome s
-  unfolding IsHome
-  alone none = (ap (λ (b : Bool). if b then has_address s.prefix a else list_any (is_part s.network a) subnets) none ∙ inside, pooled)
-
-  shared : (s.network == 0) ≡ false → IsHome (network_of subnets s.network)
-  unfolding IsHome network_of
-  shared some =
-      let part = passes_among test (is_part s.network a) subnets s there (and_from (s.network == s.network) (has_address s.prefix a) (itself s.network) inside) in
-      let pool = passes_among test (λ t. t.network == s.network && contained t a) subnets s there (and_from (s.network == s.network) (contained s a) (itself s.network) pooled) in
-      (ap (λ (b : Bool). if b then has_address (network_of subnets s.network).prefix a else list_any (is_part s.network a) subnets) some ∙ part, within s.network a subnets pool) where
-        itself : (n : ℕ) → (n == n) ≡ true
-        itself n = eq-eqb n n refl
-
-  lookup_of : (n : ℕ) → n ≤ network_count subnets → (n == 0) ≡ false → network_at subnets n ≡ Some (network_of subnets n)
-  lookup_of n less none =
-      let some : 0 < n = positive n none in
-      let within : n - 1 < network_count subnets = omega (arith, less, some) in
-      let same : 0 + (n - 1) + 1 ≡ n = omega (arith, some) in
-      ap (λ (b : Bool). if b then None else slice_get (networks_in subnets) (n - 1)) none
-      ∙ slice_get-map (λ i. network_of subnets (i + 1)) (range_with_len 0 (network_count subnets)) (n - 1)
-      ∙ ap (option_map (λ i. network_of subnets (i + 1))) (range_get 0 (network_count subnets) (n - 1) within)
-      ∙ ap (λ (k : ℕ). Some (network_of subnets k)) same where
-        positive : (n : ℕ) → (n == 0) ≡ false → 0 < n
-        positive zero e = absurd (false≢true (sym e))
-        positive (suc n) e = omega arith
-
-  home : IsHome (home_of subnets s)
-  home = by (s.network == 0) refl where
-    by : (b : Bool) → (s.network == 0) ≡ b → IsHome (home_of subnets s)
-    by true e = subst IsHome (sym (ap (λ (b : Bool). value_or (if b then None else slice_get (networks_in subnets) (s.network - 1)) s) e)) (alone e)
-    by false e = subst IsHome (sym (ap (λ (o : Option Subnet). value_or o s) (lookup_of s.network (counted test subnets s there) e))) (shared e)
 
 -- ---- the message
 
@@ -220,8 +100,8 @@ module _ (q : Asking) (keeps : q.config.extensions.keeps_leases ≡ true) (renew
   its_home = home_of q.config.subnets first.0
 
   is_home : (covers q.config.subnets its_home a ≡ true) × (contained its_home a ≡ true)
-  unfolding its_home IsHome
-  is_home = home q.config.subnets (has_to_keep a) first.0 a first.1 parts.0 in_pool
+  unfolding its_home
+  is_home = (home_covers q.config.subnets (has_to_keep a) first.0 a first.1 parts.0, home_contains q.config.subnets (has_to_keep a) first.0 a first.1 in_pool)
 
   kept : kept_subnet q ≡ Some its_home
   unfolding its_home a

@@ -1,8 +1,7 @@
 -- The text of a reply reads as the reply that was decided.
-use Rattle.std.proofs.Common.{◌≡◌, ℕ, zero, suc, ◌+◌, ◌<◌, ◌^◌, ◌==◌, Bool, true, false, List, [], ◌∷◌, Option, None, Some, refl, sym, ap, subst, ◌∙◌, arith, leb-true}
-use Rattle.std.specs.Prelude.{IfSome, IsSomeAnd, codes, map, nat_eq, replicate, sum_by, bit_or, if◌then◌else◌}
+use Rattle.std.proofs.Common.{◌≡◌, ℕ, ◌+◌, ◌<◌, ◌^◌, ◌==◌, Bool, true, false, List, [], ◌∷◌, Option, None, Some, refl, sym, ap, subst, ◌∙◌, arith, leb-true}
+use Rattle.std.specs.Prelude.{IfSome, IsSomeAnd, codes, map, nat_eq, sum_by, bit_or, if◌then◌else◌}
 use Rattle.std.specs.List.{AllByRecursion, IsDistinct}
-use Rattle.std.proofs.lemmas.List.{length-replicate}
 use Rattle.std.proofs.lemmas.List.Sums.{sum_by-cons}
 use Rattle.std.proofs.lemmas.Nat.{or_of_16}
 use Rattle.std.specs.Option.{option_or}
@@ -10,40 +9,33 @@ use Rattle.kd_config.specs.Configuration.{Configuration}
 use Rattle.kd_config.specs.Sound.{IsSound}
 use Rattle.kd_event.specs.declared.reason.Reason.{Reason}
 use Rattle.kd_event.specs.declared.reason.Reason.TheVariants as reasons
-use Rattle.kd_lease.specs.Change.{AnswersTo, Changes, ForClient, HasReplyOptions, Unless, WhereFits, asked_for, fits_in}
+use Rattle.kd_lease.specs.Change.{AnswersTo, Changes, ForClient, HasReplyContent, Unless, WhereFits, asked_for, fits_in}
 use Rattle.kd_lease.specs.Choice.{Asking}
 use Rattle.kd_lease.specs.Client.{first_byte, identity_by, identity_by_hardware, identity_under, reply_room, server_message}
 use Rattle.kd_lease.specs.Laws.{EndsAreFounded}
-use Rattle.kd_lease.specs.Plan.{Outcome, ReplyOption, option_of_item}
+use Rattle.kd_lease.specs.Plan.{Content, Outcome, option_of_item}
 use Rattle.kd_lease.specs.Plan.Outcome.{planned, quiet}
 use Rattle.kd_lease.specs.ReplyOf.{ciaddr_of_reply, flags_of_reply, header_of_reply, needed, within_room}
-use Rattle.kd_lease.specs.ReplyOptions.{plan_type, reply_options}
+use Rattle.kd_lease.specs.ReplyOptions.{plan_type, reply_content, reply_options}
 use Rattle.kd_lease.specs.Rules.{Does}
+use Rattle.kd_lease.specs.declared.booting.BootFields.{BootFields}
 use Rattle.kd_lease.specs.declared.plan.PlanKind.{PlanKind}
 use Rattle.kd_lease.specs.declared.plan.PlanKind.TheVariants as kinds
 use Rattle.kd_machine.specs.Parts.{is_held}
 use Rattle.kd_options.specs.Joined.{value_of}
-use Rattle.kd_options.specs.Laws.{IsField, IsHeader, MessagesHaveSizes, item_codes, item_options, read_back}
-use Rattle.kd_options.specs.Message.{AreBytes, Reads, Seen, mac_of}
+use Rattle.kd_options.specs.Laws.{IsHeader, MessagesHaveSizes, item_codes, item_options, read_back}
+use Rattle.kd_options.specs.Message.{Reads, Seen, mac_of}
 use Rattle.kd_options.specs.Options.{IsAddressValue, IsReadable, IsType}
 use Rattle.kd_options.specs.Reply.{ItemsFit, base_cost, kept, obligatory_cost, reply_text}
 use Rattle.kd_options.specs.declared.item.Item.{Item}
 use Rattle.kd_rows.specs.declared.row.Row.{Row}
 use Rattle.kd_wire.specs.declared.header.Header.{Header}
 use Rattle.kd_laws.proofs.Assigned.{assigned_32}
+use Rattle.kd_laws.proofs.Booted.{AreFields, fields_sized}
 use Rattle.kd_laws.proofs.Ordered.{AreOrdered, IsSure, codes_of, is_own, ordered-distinct, ordered-sure, told}
 use Rattle.kd_laws.proofs.Rereads.{IsObligatory, kept_value, rereads}
 use Rattle.kd_laws.proofs.Told.{reply_ordered, told_client, told_lifetime, told_no_overload, told_no_requested, told_server, told_type}
 use Rattle.kd_laws.specs.Replies.{ReadsAsReply, RepliesReadBack}
-
--- zeros are bytes
-zeros_are : (n : ℕ) → AreBytes (replicate n 0)
-zeros_are zero = tt
-zeros_are (suc n) = (omega arith, zeros_are n)
-
--- a field of zeros
-zero_field : (n : ℕ) → IsField n (replicate n 0)
-zero_field n = record { size = length-replicate n 0; bytes_are = zeros_are n }
 
 -- the flags of a reply have 16 bits, and its `ciaddr` has 32
 flags_16 : (kind : PlanKind) (h : Header) → h.flags < 2 ^ 16 → flags_of_reply kind h < 2 ^ 16
@@ -62,9 +54,9 @@ ciaddr_32 kinds.InformAck h is = is
 ciaddr_32 kinds.Nak h is = omega arith
 
 -- the header of a reply has its sizes
-reply_header : (kind : PlanKind) (yiaddr : ℕ) (h : Header) → IsHeader h → yiaddr < 2 ^ 32 → IsHeader (header_of_reply kind yiaddr h)
+reply_header : (kind : PlanKind) (yiaddr : ℕ) (fields : BootFields) (h : Header) → IsHeader h → yiaddr < 2 ^ 32 → AreFields fields → IsHeader (header_of_reply kind yiaddr fields h)
 unfolding header_of_reply
-reply_header kind yiaddr h is fits = record {
+reply_header kind yiaddr fields h is fits sized = record {
   op = omega arith;
   htype = is.htype;
   hlen = is.hlen;
@@ -74,23 +66,23 @@ reply_header kind yiaddr h is fits = record {
   flags = flags_16 kind h is.flags;
   ciaddr = ciaddr_32 kind h is.ciaddr;
   yiaddr = fits;
-  siaddr = omega arith;
+  siaddr = sized.siaddr;
   giaddr = is.giaddr;
   chaddr = is.chaddr;
-  sname = zero_field 64;
-  file = zero_field 128;
+  sname = sized.sname;
+  file = sized.file;
 }
 
 -- a reply is one by its op
-reply_op : (kind : PlanKind) (yiaddr : ℕ) (h : Header) → (header_of_reply kind yiaddr h).op ≡ 2
+reply_op : (kind : PlanKind) (yiaddr : ℕ) (fields : BootFields) (h : Header) → (header_of_reply kind yiaddr fields h).op ≡ 2
 unfolding header_of_reply
-reply_op kind yiaddr h = refl
+reply_op kind yiaddr fields h = refl
 
 -- who the client is, is decided by option 61 and the hardware in the header
-same_client : (config : Configuration) (kind : PlanKind) (yiaddr : ℕ) (m reply : Seen)
-    → reply.header ≡ header_of_reply kind yiaddr m.header → value_of 61 reply.options ≡ value_of 61 m.options → identity_under config reply ≡ identity_under config m
+same_client : (config : Configuration) (kind : PlanKind) (yiaddr : ℕ) (fields : BootFields) (m reply : Seen)
+    → reply.header ≡ header_of_reply kind yiaddr fields m.header → value_of 61 reply.options ≡ value_of 61 m.options → identity_under config reply ≡ identity_under config m
 unfolding header_of_reply
-same_client config kind yiaddr m reply header value =
+same_client config kind yiaddr fields m reply header value =
     λ i. if config.extensions.ignores_client_ids
     then option_or (identity_by_hardware (header i).htype (mac_of (header i))) (identity_by (value i) None)
     else identity_by (value i) (identity_by_hardware (header i).htype (mac_of (header i)))
@@ -116,15 +108,15 @@ items_sure code (x ∷ items) own each =
     ((λ same. each.0 (subst (λ (c : ℕ). is_own c ≡ true) (sym same) own)), items_sure code items own each.1)
 
 -- what an outcome that is a reply rests on
-record IsAnswer (q : Asking) (kind : PlanKind) (yiaddr : ℕ) (options : List ReplyOption) : Type 0 where
+record IsAnswer (q : Asking) (kind : PlanKind) (yiaddr : ℕ) (content : Content) : Type 0 where
   row : Option Row
-  does : Does q row (planned kind yiaddr options)
-  options_are : options ≡ reply_options q kind yiaddr
-  fits : within_room (reply_room q.message) options ≡ true
+  does : Does q row (planned kind yiaddr content)
+  content_is : content ≡ reply_content q kind yiaddr
+  fits : within_room (reply_room q.message) content.options ≡ true
 
-module _ (kind : PlanKind) (yiaddr : ℕ) (options : List ReplyOption) where
+module _ (kind : PlanKind) (yiaddr : ℕ) (content : Content) where
   abbrev reply : Outcome
-  reply = planned kind yiaddr options
+  reply = planned kind yiaddr content
 
   -- a reply is not the lack of one
   not_quiet : {A : Type 0} (reason : Reason) → reply ≡ quiet reason → A
@@ -141,27 +133,27 @@ module _ (kind : PlanKind) (yiaddr : ℕ) (options : List ReplyOption) where
   past_client (Some c) Done set h = (c, h)
 
   -- and only if its mandatory options fit
-  fitting : (q : Asking) (set : Option Row) → AnswersTo q set reply → IsAnswer q kind yiaddr options
+  fitting : (q : Asking) (set : Option Row) → AnswersTo q set reply → IsAnswer q kind yiaddr content
   fitting q set a = by (fits_in (reply_room q.message) a.outcome) refl a.replies where
-    by : (b : Bool) → fits_in (reply_room q.message) a.outcome ≡ b → WhereFits b a.row a.outcome set reply → IsAnswer q kind yiaddr options
+    by : (b : Bool) → fits_in (reply_room q.message) a.outcome ≡ b → WhereFits b a.row a.outcome set reply → IsAnswer q kind yiaddr content
     by true fits h = record {
       row = a.row;
       does = subst (Does q a.row) (sym h.1) a.does;
-      options_are = subst (HasReplyOptions q) (sym h.1) a.options;
+      content_is = subst (HasReplyContent q) (sym h.1) a.content;
       fits = subst (λ (o : Outcome). fits_in (reply_room q.message) o ≡ true) (sym h.1) fits;
     }
     by false fits h = not_quiet _ h.1
 
 -- a message that changes the leases and gets a reply was answered
-answered : (config : Configuration) (old new : List Row) (m : Seen) (now : ℕ) (kind : PlanKind) (yiaddr : ℕ) (options : List ReplyOption)
-    (h : Changes config old m now new (planned kind yiaddr options)) → (client : List ℕ) × IsAnswer (asked_for config old h.names m now client) kind yiaddr options
-answered config old new m now kind yiaddr options h =
+answered : (config : Configuration) (old new : List Row) (m : Seen) (now : ℕ) (kind : PlanKind) (yiaddr : ℕ) (content : Content)
+    (h : Changes config old m now new (planned kind yiaddr content)) → (client : List ℕ) × IsAnswer (asked_for config old h.names m now client) kind yiaddr content
+answered config old new m now kind yiaddr content h =
     let Answers : List ℕ → Option Row → Outcome → Type 0 = λ client. AnswersTo (asked_for config old h.names m now client) in
     let Drops : List ℕ → Option Row → Outcome → Type 0 = λ client. Unless (is_held (codes "DROP") h.names) reasons.DropClass (Answers client) in
-    let requests = past_test kind yiaddr options (server_message m) reasons.NotRequest (ForClient (identity_under config m) Drops) h.set h.decides in
-    let client = past_client kind yiaddr options (identity_under config m) Drops h.set requests in
-    let answers = past_test kind yiaddr options (is_held (codes "DROP") h.names) reasons.DropClass (Answers client.0) h.set client.1 in
-    (client.0, fitting kind yiaddr options (asked_for config old h.names m now client.0) h.set answers)
+    let requests = past_test kind yiaddr content (server_message m) reasons.NotRequest (ForClient (identity_under config m) Drops) h.set h.decides in
+    let client = past_client kind yiaddr content (identity_under config m) Drops h.set requests in
+    let answers = past_test kind yiaddr content (is_held (codes "DROP") h.names) reasons.DropClass (Answers client.0) h.set client.1 in
+    (client.0, fitting kind yiaddr content (asked_for config old h.names m now client.0) h.set answers)
 
 -- the type of a reply is a message type
 type_is : (kind : PlanKind) → IsType (plan_type kind ∷ [])
@@ -170,17 +162,17 @@ type_is kinds.Ack = (omega arith, omega arith)
 type_is kinds.InformAck = (omega arith, omega arith)
 type_is kinds.Nak = (omega arith, omega arith)
 
-module _ (founded : EndsAreFounded) (q : Asking) (sound : IsSound q.config) (fields : IsHeader q.message.header) (kind : PlanKind) (yiaddr : ℕ) (options : List ReplyOption)
-    (is : IsAnswer q kind yiaddr options) (items : List Item) (are : map option_of_item items ≡ options) where
+module _ (founded : EndsAreFounded) (q : Asking) (sound : IsSound q.config) (fields : IsHeader q.message.header) (kind : PlanKind) (yiaddr : ℕ) (content : Content)
+    (is : IsAnswer q kind yiaddr content) (items : List Item) (are : map option_of_item items ≡ content.options) where
   abbrev room : ℕ
   room = reply_room q.message
 
   abbrev header : Header
-  header = header_of_reply kind yiaddr q.message.header
+  header = header_of_reply kind yiaddr content.fields q.message.header
 
   -- the items are those options
   same_options : map option_of_item items ≡ reply_options q kind yiaddr
-  same_options = are ∙ is.options_are
+  same_options = are ∙ ap (λ (c : Content). c.options) is.content_is
 
   -- they are in order
   ordered : AreOrdered 0 262 (map option_of_item items)
@@ -193,7 +185,7 @@ module _ (founded : EndsAreFounded) (q : Asking) (sound : IsSound q.config) (fie
   -- the obligatory ones fit
   items_fit : ItemsFit room items
   items_fit =
-      let within = leb-true (240 + sum_by needed options + 1) room is.fits in
+      let within = leb-true (240 + sum_by needed content.options + 1) room is.fits in
       omega (arith, within, items_cost items, ap (sum_by needed) are)
 
   -- what the kept items say of one of the server's own codes is what the options of the reply say
@@ -209,11 +201,15 @@ module _ (founded : EndsAreFounded) (q : Asking) (sound : IsSound q.config) (fie
     server = subst (λ (v : Option (List ℕ)). IfSome v IsAddressValue) (sym (said 54 refl ∙ told_server q sound kind yiaddr)) refl;
   }
 
+  -- the boot fields have their sizes
+  sized : AreFields content.fields
+  sized = subst AreFields (sym (ap (λ (c : Content). c.fields) is.content_is)) (fields_sized q sound kind yiaddr)
+
   -- the text reads as the header and the kept items
   reads : Reads (reply_text header room items) (read_back header room items)
   reads = rereads header room items (record {
-    fields = reply_header kind yiaddr q.message.header fields (assigned_32 founded q is.row kind yiaddr options sound is.does);
-    op = reply_op kind yiaddr q.message.header;
+    fields = reply_header kind yiaddr content.fields q.message.header fields (assigned_32 founded q is.row kind yiaddr content sound is.does) sized;
+    op = reply_op kind yiaddr content.fields q.message.header;
     codes = codes_distinct;
     plain = said 52 refl ∙ told_no_overload q sound kind yiaddr;
     readable = readable;
@@ -222,18 +218,18 @@ module _ (founded : EndsAreFounded) (q : Asking) (sound : IsSound q.config) (fie
   })
 
   -- the text of an answer reads as the reply that was decided
-  answer_reads : (text : List ℕ) → text ≡ reply_text header room items → ReadsAsReply q.config q.message kind yiaddr text
+  answer_reads : (text : List ℕ) → text ≡ reply_text header room items → ReadsAsReply q.config q.message kind yiaddr content.fields text
   answer_reads text text_is = record {
     reply = read_back header room items;
     reads = subst (λ (bytes : List ℕ). Reads bytes (read_back header room items)) (sym text_is) reads;
     header = refl;
     type = ap first_byte (said 53 refl ∙ told_type q sound kind yiaddr);
-    client = same_client q.config kind yiaddr q.message (read_back header room items) refl (said 61 refl ∙ told_client q sound kind yiaddr);
+    client = same_client q.config kind yiaddr content.fields q.message (read_back header room items) refl (said 61 refl ∙ told_client q sound kind yiaddr);
     lifetime = said 51 refl ∙ told_lifetime q sound kind yiaddr;
   }
 
 -- the law
 pub replies_read : EndsAreFounded → MessagesHaveSizes → RepliesReadBack
-replies_read founded sizes config old new m now kind yiaddr options text sound message changes is =
-    let answer = answered config old new m now kind yiaddr options changes in
-    answer_reads founded (asked_for config old changes.names m now answer.0) sound (sizes m message).fields kind yiaddr options answer.1 is.0 is.1 text is.2
+replies_read founded sizes config old new m now kind yiaddr content text sound message changes is =
+    let answer = answered config old new m now kind yiaddr content changes in
+    answer_reads founded (asked_for config old changes.names m now answer.0) sound (sizes m message).fields kind yiaddr content answer.1 is.0 is.1 text is.2

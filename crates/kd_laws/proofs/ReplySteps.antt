@@ -22,10 +22,11 @@ use Rattle.kd_laws.proofs.Ruled.{IsSilent, Ruled, ruled}
 use Rattle.kd_lease.specs.Change.{Changes}
 use Rattle.kd_lease.specs.Client.{identity_under, kind_of}
 use Rattle.kd_lease.specs.Laws.{EndsAreFounded}
-use Rattle.kd_lease.specs.Plan.{Outcome, ReplyOption}
+use Rattle.kd_lease.specs.Plan.{Content, Outcome}
 use Rattle.kd_lease.specs.Plan.Outcome.{planned, quiet}
 use Rattle.kd_lease.specs.ReplyOf.{header_of_reply}
 use Rattle.kd_lease.specs.ReplyOptions.{plan_type}
+use Rattle.kd_lease.specs.declared.booting.BootFields.{BootFields}
 use Rattle.kd_lease.specs.declared.plan.PlanKind.{PlanKind}
 use Rattle.kd_lease.specs.declared.plan.PlanKind.TheVariants as kinds
 use Rattle.kd_options.specs.Joined.{value_of}
@@ -203,9 +204,9 @@ same_four x y small little same = sym (four_back x small) ∙ ap four same ∙ f
 -- a step that is answered with a reply that gives an address: what was decided
 record Decided (e : LeaseStep) (type : MessageType) (client : List ℕ) (a seconds now : ℕ) : Type 0 where
   kind : PlanKind
-  options : List ReplyOption
-  outcome : e.outcome ≡ Some (planned kind a options)
-  changes : Changes e.config e.before e.message (now_of e) e.after (planned kind a options)
+  content : Content
+  outcome : e.outcome ≡ Some (planned kind a content)
+  changes : Changes e.config e.before e.message (now_of e) e.after (planned kind a content)
   by : identity_under e.config e.message ≡ Some client
   type_is : plan_type kind ≡ type_number type
   told : lifetime_told kind e.config.times ≡ Some (big_bytes 4 seconds)
@@ -214,9 +215,9 @@ record Decided (e : LeaseStep) (type : MessageType) (client : List ℕ) (a secon
   time : now ≡ now_of e
 
 -- the address of a reply is in its header
-yiaddr_of : (kind : PlanKind) (y : ℕ) (h : Header) → (header_of_reply kind y h).yiaddr ≡ y
+yiaddr_of : (kind : PlanKind) (y : ℕ) (fields : BootFields) (h : Header) → (header_of_reply kind y fields h).yiaddr ≡ y
 unfolding header_of_reply
-yiaddr_of kind y h = refl
+yiaddr_of kind y fields h = refl
 
 module _ (founded : EndsAreFounded) (read_back : RepliesReadBack) where
   decided : (r : Exchange) (e : LeaseStep) (type : MessageType) (client : List ℕ) (a seconds now : ℕ) → IsSoundStep r e → Happens e e.outcome → IsAnsweredBy type r client a seconds now
@@ -236,18 +237,18 @@ module _ (founded : EndsAreFounded) (read_back : RepliesReadBack) where
 
     by : (got : Outcome) → e.outcome ≡ Some got → Responds is.ports e.message got response → Decided e type client a seconds now
     by (quiet reason) outcome responds = absurd (let same : response ≡ responses.Quiet reason = responds in cc)
-    by (planned kind yiaddr options) outcome responds =
-        let changes : Happens e (Some (planned kind yiaddr options)) = subst (Happens e) outcome happens in
+    by (planned kind yiaddr content) outcome responds =
+        let changes : Happens e (Some (planned kind yiaddr content)) = subst (Happens e) outcome happens in
         let m : IsMessage e.message = record { datagram = r.report.event.bytes; bytes_are = given.datagram; reads = is.is.reads } in
-        let back = read_back e.config e.before e.after e.message (now_of e) kind yiaddr options given.reply sound m changes responds.1 in
+        let back = read_back e.config e.before e.after e.message (now_of e) kind yiaddr content given.reply sound m changes responds.1 in
         let same = one_message given.reply back.reply given.gives.message back.reads given.gives.reads in
-        let header : given.gives.message.header ≡ header_of_reply kind yiaddr e.message.header = ap (λ m. m.header) (sym same) ∙ back.header in
-        let address : yiaddr ≡ a = sym (yiaddr_of kind yiaddr e.message.header) ∙ ap (λ (h : Header). h.yiaddr) (sym header) ∙ given.gives.address in
+        let header : given.gives.message.header ≡ header_of_reply kind yiaddr content.fields e.message.header = ap (λ m. m.header) (sym same) ∙ back.header in
+        let address : yiaddr ≡ a = sym (yiaddr_of kind yiaddr content.fields e.message.header) ∙ ap (λ (h : Header). h.yiaddr) (sym header) ∙ given.gives.address in
         record {
           kind = kind;
-          options = options;
-          outcome = outcome ∙ ap (λ (y : ℕ). Some (planned kind y options)) address;
-          changes = subst (λ (y : ℕ). Changes e.config e.before e.message (now_of e) e.after (planned kind y options)) address changes;
+          content = content;
+          outcome = outcome ∙ ap (λ (y : ℕ). Some (planned kind y content)) address;
+          changes = subst (λ (y : ℕ). Changes e.config e.before e.message (now_of e) e.after (planned kind y content)) address changes;
           by = sym back.client ∙ ap (identity_under e.config) same
               ∙ ap (λ (config : Configuration). identity_under config given.gives.message) is.is.config_is ∙ given.gives.for_client;
           type_is = sym back.type ∙ ap kind_of same ∙ given.gives.type_is;
@@ -258,40 +259,40 @@ module _ (founded : EndsAreFounded) (read_back : RepliesReadBack) where
         }
 
   -- an ACK that tells a lifetime is of a REQUEST
-  is_request : (e : LeaseStep) (client : List ℕ) (a : ℕ) (options : List ReplyOption) → Changes e.config e.before e.message (now_of e) e.after (planned kinds.Ack a options)
+  is_request : (e : LeaseStep) (client : List ℕ) (a : ℕ) (content : Content) → Changes e.config e.before e.message (now_of e) e.after (planned kinds.Ack a content)
       → kind_of e.message ≡ type_number types.Request
-  is_request e client a options c = ⊎_elim silent by (ruled e.config e.before c.names e.message (now_of e) c.set (planned kinds.Ack a options) c.decides) where
-    silent : IsSilent c.set (planned kinds.Ack a options) → kind_of e.message ≡ type_number types.Request
-    silent s = let no : planned kinds.Ack a options ≡ quiet s.1.0 = s.1.1 in absurd (cc)
+  is_request e client a content c = ⊎_elim silent by (ruled e.config e.before c.names e.message (now_of e) c.set (planned kinds.Ack a content) c.decides) where
+    silent : IsSilent c.set (planned kinds.Ack a content) → kind_of e.message ≡ type_number types.Request
+    silent s = let no : planned kinds.Ack a content ≡ quiet s.1.0 = s.1.1 in absurd (cc)
 
-    by : Ruled e.config e.before c.names e.message (now_of e) c.set (planned kinds.Ack a options) → kind_of e.message ≡ type_number types.Request
-    by r = sym r.does.is ∙ ap type_number (requested_if founded _ r.does.type c.set a options r.does.sets)
+    by : Ruled e.config e.before c.names e.message (now_of e) c.set (planned kinds.Ack a content) → kind_of e.message ≡ type_number types.Request
+    by r = sym r.does.is ∙ ap type_number (requested_if founded _ r.does.type c.set a content r.does.sets)
 
-  acks : (e : LeaseStep) (client : List ℕ) (a seconds now : ℕ) (kind : PlanKind) (options : List ReplyOption) → plan_type kind ≡ 5 → lifetime_told kind e.config.times ≡ Some (big_bytes 4 seconds)
-      → e.outcome ≡ Some (planned kind a options) → Changes e.config e.before e.message (now_of e) e.after (planned kind a options) → identity_under e.config e.message ≡ Some client
+  acks : (e : LeaseStep) (client : List ℕ) (a seconds now : ℕ) (kind : PlanKind) (content : Content) → plan_type kind ≡ 5 → lifetime_told kind e.config.times ≡ Some (big_bytes 4 seconds)
+      → e.outcome ≡ Some (planned kind a content) → Changes e.config e.before e.message (now_of e) e.after (planned kind a content) → identity_under e.config e.message ≡ Some client
       → GivesLease e client a × (big_bytes 4 (lifetime_of e) ≡ big_bytes 4 seconds)
-  acks e client a seconds now kinds.Offer options type told outcome changes by = absurd (omega (arith, type))
-  acks e client a seconds now kinds.Ack options type told outcome changes by =
-      (record { by = by; request = is_request e client a options changes; options = options; ack = outcome }, same_Some (big_bytes 4 (lifetime_of e)) (big_bytes 4 seconds) told)
-  acks e client a seconds now kinds.InformAck options type told outcome changes by = absurd (none-some (big_bytes 4 seconds) told)
-  acks e client a seconds now kinds.Nak options type told outcome changes by = absurd (omega (arith, type))
+  acks e client a seconds now kinds.Offer content type told outcome changes by = absurd (omega (arith, type))
+  acks e client a seconds now kinds.Ack content type told outcome changes by =
+      (record { by = by; request = is_request e client a content changes; content = content; ack = outcome }, same_Some (big_bytes 4 (lifetime_of e)) (big_bytes 4 seconds) told)
+  acks e client a seconds now kinds.InformAck content type told outcome changes by = absurd (none-some (big_bytes 4 seconds) told)
+  acks e client a seconds now kinds.Nak content type told outcome changes by = absurd (omega (arith, type))
 
-  offers : (e : LeaseStep) (client : List ℕ) (a : ℕ) (kind : PlanKind) (options : List ReplyOption) → plan_type kind ≡ 2
-      → e.outcome ≡ Some (planned kind a options) → identity_under e.config e.message ≡ Some client → GivesOffer e client a
-  offers e client a kinds.Offer options type outcome by = record { by = by; options = options; offer = outcome }
-  offers e client a kinds.Ack options type outcome by = absurd (omega (arith, type))
-  offers e client a kinds.InformAck options type outcome by = absurd (omega (arith, type))
-  offers e client a kinds.Nak options type outcome by = absurd (omega (arith, type))
+  offers : (e : LeaseStep) (client : List ℕ) (a : ℕ) (kind : PlanKind) (content : Content) → plan_type kind ≡ 2
+      → e.outcome ≡ Some (planned kind a content) → identity_under e.config e.message ≡ Some client → GivesOffer e client a
+  offers e client a kinds.Offer content type outcome by = record { by = by; content = content; offer = outcome }
+  offers e client a kinds.Ack content type outcome by = absurd (omega (arith, type))
+  offers e client a kinds.InformAck content type outcome by = absurd (omega (arith, type))
+  offers e client a kinds.Nak content type outcome by = absurd (omega (arith, type))
 
   leased : (e : LeaseStep) (client : List ℕ) (a seconds now : ℕ) → Decided e types.Ack client a seconds now → GivesLease e client a × (lifetime_of e ≡ seconds)
   leased e client a seconds now d =
-      let l = acks e client a seconds now d.kind d.options d.type_is d.told d.outcome d.changes d.by in
+      let l = acks e client a seconds now d.kind d.content d.type_is d.told d.outcome d.changes d.by in
       (l.0, same_four (lifetime_of e) seconds d.lifetime d.range l.1)
 
   given_to : (e : LeaseStep) (type : MessageType) (client : List ℕ) (a seconds now : ℕ) → (type ≡ types.Offer) ⊎ (type ≡ types.Ack) → Decided e type client a seconds now → GivesTo e client a
   given_to e type client a seconds now offers_or_acks d = ⊎_elim
-      (λ offer. inl (offers e client a d.kind d.options (d.type_is ∙ ap type_number offer) d.outcome d.by))
-      (λ ack. inr (acks e client a seconds now d.kind d.options (d.type_is ∙ ap type_number ack) d.told d.outcome d.changes d.by).0)
+      (λ offer. inl (offers e client a d.kind d.content (d.type_is ∙ ap type_number offer) d.outcome d.by))
+      (λ ack. inr (acks e client a seconds now d.kind d.content (d.type_is ∙ ap type_number ack) d.told d.outcome d.changes d.by).0)
       offers_or_acks
 
   module _ (across : NoOverlapAcross) (life : List Opening) (is : Life life) (all : List LeaseStep) (whole : LeaseHistory (first_rows life) all) (are : AreStepsOfAll life all) where

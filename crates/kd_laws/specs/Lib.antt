@@ -8,3 +8,4 @@ pub mod Recorded
 pub mod Renewals
 pub mod Replies
 pub mod Sent
+pub mod Unbooted

@@ -5,7 +5,7 @@ use Rattle.std.specs.List.{slice_get}
 use Rattle.kd_config.specs.Configuration.{Configuration}
 use Rattle.kd_lease.specs.Change.{Changes}
 use Rattle.kd_lease.specs.Client.{identity_under, kind_of}
-use Rattle.kd_lease.specs.Plan.{Outcome, ReplyOption}
+use Rattle.kd_lease.specs.Plan.{Content, Outcome}
 use Rattle.kd_lease.specs.Plan.Outcome.{planned}
 use Rattle.kd_lease.specs.declared.plan.PlanKind.TheVariants as kinds
 use Rattle.kd_options.specs.Kind.{type_number}
@@ -63,14 +63,14 @@ HistoryTo rows (e ∷ es) last =
 pub record GivesLease (e : LeaseStep) (client : List ℕ) (a : ℕ) : Type 0 where
   pub by : identity_under e.config e.message ≡ Some client
   pub request : kind_of e.message ≡ type_number types.Request
-  pub options : List ReplyOption
-  pub ack : e.outcome ≡ Some (planned kinds.Ack a options)
+  pub content : Content
+  pub ack : e.outcome ≡ Some (planned kinds.Ack a content)
 
 -- a step offers an address to a client
 pub record GivesOffer (e : LeaseStep) (client : List ℕ) (a : ℕ) : Type 0 where
   pub by : identity_under e.config e.message ≡ Some client
-  pub options : List ReplyOption
-  pub offer : e.outcome ≡ Some (planned kinds.Offer a options)
+  pub content : Content
+  pub offer : e.outcome ≡ Some (planned kinds.Offer a content)
 
 -- a step gives an address to a client: it offers or leases it
 abbrev pub GivesTo : LeaseStep → List ℕ → ℕ → Type 0

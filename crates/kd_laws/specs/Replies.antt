@@ -7,10 +7,11 @@ use Rattle.kd_config.specs.Sound.{IsSound}
 use Rattle.kd_config.specs.declared.times.Times.{Times}
 use Rattle.kd_lease.specs.Change.{Changes}
 use Rattle.kd_lease.specs.Client.{identity_under, kind_of, reply_room}
-use Rattle.kd_lease.specs.Plan.{ReplyOption}
+use Rattle.kd_lease.specs.Plan.{Content}
 use Rattle.kd_lease.specs.Plan.Outcome.{planned}
 use Rattle.kd_lease.specs.ReplyOf.{IsReplyText, header_of_reply}
 use Rattle.kd_lease.specs.ReplyOptions.{plan_type}
+use Rattle.kd_lease.specs.declared.booting.BootFields.{BootFields}
 use Rattle.kd_lease.specs.declared.plan.PlanKind.{PlanKind}
 use Rattle.kd_lease.specs.declared.plan.PlanKind.TheVariants as kinds
 use Rattle.kd_options.specs.Joined.{value_of}
@@ -24,13 +25,13 @@ lifetime_told kinds.Ack times = Some (big_bytes 4 times.lifetime)
 lifetime_told kinds.InformAck times = None
 lifetime_told kinds.Nak times = None
 
--- bytes read as a message with this header, of this type, for the client of a message, and with this
--- lifetime
+-- bytes read as a message with the header of a reply with these boot fields, of this type, for the
+-- client of a message, and with this lifetime
 pub record ReadsAsReply (config : Configuration) (m : Seen) (kind : PlanKind) (yiaddr : ℕ)
-    (text : List ℕ) : Type 0 where
+    (fields : BootFields) (text : List ℕ) : Type 0 where
   pub reply : Seen
   pub reads : Reads text reply
-  pub header : reply.header ≡ header_of_reply kind yiaddr m.header
+  pub header : reply.header ≡ header_of_reply kind yiaddr fields m.header
   pub type : kind_of reply ≡ plan_type kind
   pub client : identity_under config reply ≡ identity_under config m
   pub lifetime : value_of 51 reply.options ≡ lifetime_told kind config.times
@@ -40,7 +41,8 @@ pub record ReadsAsReply (config : Configuration) (m : Seen) (kind : PlanKind) (y
 abbrev pub RepliesReadBack : Type 0
 RepliesReadBack =
     (config : Configuration) (old new : List Row) (m : Seen) (now : ℕ) (kind : PlanKind)
-    (yiaddr : ℕ) (options : List ReplyOption) (text : List ℕ)
-    → IsSound config → IsMessage m → Changes config old m now new (planned kind yiaddr options)
-    → IsReplyText (header_of_reply kind yiaddr m.header) (reply_room m) options text
-    → ReadsAsReply config m kind yiaddr text
+    (yiaddr : ℕ) (content : Content) (text : List ℕ)
+    → IsSound config → IsMessage m → Changes config old m now new (planned kind yiaddr content)
+    → IsReplyText (header_of_reply kind yiaddr content.fields m.header) (reply_room m)
+    content.options text
+    → ReadsAsReply config m kind yiaddr content.fields text

@@ -6,8 +6,9 @@
 //! renews its lease without a relay keeps it (`renewals`, `specs/Renewals.antt`); whatever is done
 //! with a server, across stops and new configurations, is such a history (`lives`,
 //! `specs/Lives.antt`), and its calls are those of the traffic (`calls`, `specs/Calls.antt`); a
-//! replay repeats what was served (`replays`, `specs/Recorded.antt`); and the program's runs over
-//! files are such lives (`runs`, `specs/AcrossRuns.antt`).
+//! replay repeats what was served (`replays`, `specs/Recorded.antt`); the program's runs over files
+//! are such lives (`runs`, `specs/AcrossRuns.antt`); and boot fields are zeros where nothing is given
+//! to them (`unbooted`, `specs/Unbooted.antt`).
 #![tactic(auto)]
 
 pub mod calls;
@@ -17,3 +18,4 @@ pub mod renewals;
 pub mod replays;
 pub mod runs;
 pub mod sent;
+pub mod unbooted;

@@ -1,17 +1,19 @@
 -- What a message does: the rows that are set were changed now and are in range, a NAK sets none,
 -- and no address that another client holds is assigned.
-use Rattle.std.proofs.Common.{◌≡◌, ℕ, ◌<◌, ◌^◌, Bool, true, false, List, [], Option, Some, None, IfSome, option_map, refl, sym, ◌∙◌, subst, arith, if◌then◌else◌, ⊎_elim}
+use Rattle.std.proofs.Common.{◌≡◌, ℕ, ◌<◌, ◌^◌, Bool, true, false, [], Option, Some, None, IfSome, option_map, refl, sym, ◌∙◌, subst, arith, if◌then◌else◌, ⊎_elim}
 use Rattle.std.proofs.lemmas.Bool.{false≢true}
 use Rattle.std.proofs.lemmas.Option.{none-some}
+use Rattle.kd_classes.specs.Boot.{no_boot}
 use Rattle.kd_config.specs.Sound.{AreTimes}
 use Rattle.kd_event.specs.declared.reason.Reason.{Reason}
 use Rattle.kd_event.specs.declared.reason.Reason.TheVariants as reasons
 use Rattle.kd_options.specs.declared.kind.MessageType.{MessageType}
 use Rattle.kd_rows.specs.Row.{IsInRange}
 use Rattle.kd_rows.specs.declared.row.Row.{Row}
+use Rattle.kd_lease.specs.Booting.{fields_of}
 use Rattle.kd_lease.specs.Choice.{Asking}
 use Rattle.kd_lease.specs.Laws.{IsAnothers, IsFounded}
-use Rattle.kd_lease.specs.Plan.{Outcome, ReplyOption}
+use Rattle.kd_lease.specs.Plan.{Content, Outcome}
 use Rattle.kd_lease.specs.Plan.Outcome.{planned, quiet}
 use Rattle.kd_lease.specs.Rules.{Does, IsSetAt, Makes, Replies, Sets, declined_row, ending, leased_row, leased_to, offered_row, released_row, row_of_offer, rule_of}
 use Rattle.kd_lease.specs.declared.plan.PlanKind.{PlanKind}
@@ -28,13 +30,17 @@ pub record IsGood (q : Asking) (row : Row) : Type 0 where
 
 -- a reply assigns an address
 abbrev pub Gives : Outcome → ℕ → Type 0
-Gives (planned kinds.Offer b options) a = b ≡ a
-Gives (planned kinds.Ack b options) a = b ≡ a
+Gives (planned kinds.Offer b content) a = b ≡ a
+Gives (planned kinds.Ack b content) a = b ≡ a
 Gives other a = ⊥
+
+-- the content of a reply that says nothing
+abbrev pub nothing : Content
+nothing = record { fields = fields_of no_boot; options = [] }
 
 -- a NAK
 abbrev pub IsNak : Outcome → Type 0
-IsNak (planned kinds.Nak a options) = Unit {0}
+IsNak (planned kinds.Nak a content) = Unit {0}
 IsNak other = ⊥
 
 -- a reply assigns no address that another client holds
@@ -78,9 +84,9 @@ no_row : (q : Asking) (set : Option Row) → set ≡ None → (r : Row) → set 
 no_row q set none r e = absurd (none-some r (sym none ∙ e))
 
 -- a reply without an address is fair
-none_given : (q : Asking) (kind : PlanKind) (set : Option Row) (a : ℕ) (outcome : Outcome) → Replies None kind a set outcome → ((b : ℕ) (options : List ReplyOption) → Gives (planned kind b options) b → ⊥) → IsGuarded q set outcome
-none_given q kind set a (planned its b options) h never = none_set q set (planned its b options) h.0 (λ c row held g. never b options (subst (λ (k : PlanKind). Gives (planned k b options) b) h.1.0 (at its c g))) where
-  at : (k : PlanKind) (c : ℕ) → Gives (planned k b options) c → Gives (planned k b options) b
+none_given : (q : Asking) (kind : PlanKind) (set : Option Row) (a : ℕ) (outcome : Outcome) → Replies None kind a set outcome → ((b : ℕ) (content : Content) → Gives (planned kind b content) b → ⊥) → IsGuarded q set outcome
+none_given q kind set a (planned its b content) h never = none_set q set (planned its b content) h.0 (λ c row held g. never b content (subst (λ (k : PlanKind). Gives (planned k b content) b) h.1.0 (at its c g))) where
+  at : (k : PlanKind) (c : ℕ) → Gives (planned k b content) c → Gives (planned k b content) b
   at kinds.Offer c g = refl
   at kinds.Ack c g = refl
   at kinds.Nak c g = g
@@ -89,19 +95,19 @@ none_given q kind set a (quiet reason) h never = absurd h.1
 
 -- a reply that assigns an address that no other client holds is fair
 given : (q : Asking) (kind : PlanKind) (row : Option Row) (a : ℕ) (set : Option Row) (outcome : Outcome) → Replies row kind a set outcome
-    → ((r : Row) → row ≡ Some r → IsGood q r) → (IsNak (planned kind a []) → ⊥) → ((r : Row) → IsAnothers q a r → ⊥) → IsGuarded q set outcome
-given q kind row a set (planned its b options) h good no_nak fair = record {
+    → ((r : Row) → row ≡ Some r → IsGood q r) → (IsNak (planned kind a nothing) → ⊥) → ((r : Row) → IsAnothers q a r → ⊥) → IsGuarded q set outcome
+given q kind row a set (planned its b content) h good no_nak fair = record {
   good = λ r e. good r (sym h.0 ∙ e);
-  nak = λ e. absurd (no_nak (nak_of kind (subst (λ (k : PlanKind). IsNak (planned k b options)) h.1.0 e)));
+  nak = λ e. absurd (no_nak (nak_of kind (subst (λ (k : PlanKind). IsNak (planned k b content)) h.1.0 e)));
   fair = λ c r held g. fair r (subst (λ (x : ℕ). IsAnothers q x r) (sym (at its c g) ∙ h.1.1) held);
 } where
-  nak_of : (k : PlanKind) → IsNak (planned k b options) → IsNak (planned k a [])
+  nak_of : (k : PlanKind) → IsNak (planned k b content) → IsNak (planned k a nothing)
   nak_of kinds.Offer e = e
   nak_of kinds.Ack e = e
   nak_of kinds.Nak e = e
   nak_of kinds.InformAck e = e
 
-  at : (k : PlanKind) (c : ℕ) → Gives (planned k b options) c → b ≡ c
+  at : (k : PlanKind) (c : ℕ) → Gives (planned k b content) c → b ≡ c
   at kinds.Offer c g = g
   at kinds.Ack c g = g
   at kinds.Nak c g = absurd g
@@ -140,11 +146,11 @@ back_good q (Some a) set is = this_set q set (released_row q a) is (good_release
 ends_guarded : (q : Asking) (type : MessageType) (about : Option ℕ) (end : Ending) (set : Option Row) (outcome : Outcome) → IsFounded q type about end → Makes q about end set outcome → IsGuarded q set outcome
 ends_guarded q type about ends.Offer set outcome rests h = offers q type about set outcome rests h
 ends_guarded q type about ends.Lease set outcome rests h = leases q type about set outcome rests h
-ends_guarded q type about ends.Nak set outcome rests h = none_given q kinds.Nak set 0 outcome h (λ b options g. g)
+ends_guarded q type about ends.Nak set outcome rests h = none_given q kinds.Nak set 0 outcome h (λ b content g. g)
 ends_guarded q type about ends.GiveBack set outcome rests h = silent_set q set outcome reasons.OtherServer h.1 (back_good q h.0.0 set h.0.2)
 ends_guarded q type about ends.Withhold set outcome rests h = withholds q about set outcome h
 ends_guarded q type about ends.Release set outcome rests h = releases q about set outcome h
-ends_guarded q type about ends.Inform set outcome rests h = none_given q kinds.InformAck set 0 outcome h (λ b options g. g)
+ends_guarded q type about ends.Inform set outcome rests h = none_given q kinds.InformAck set 0 outcome h (λ b content g. g)
 ends_guarded q type about (ends.Quiet reason) set outcome rests h = silent_set q set outcome reason h.1 (no_row q set h.0)
 
 pub guarded : (q : Asking) (type : MessageType) (set : Option Row) (outcome : Outcome) → Sets q type set outcome → IsGuarded q set outcome

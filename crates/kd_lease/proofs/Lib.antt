@@ -1,8 +1,10 @@
 pub mod Aged
+pub mod Boots
 pub mod Founded
 pub mod Giving
 pub mod Guards
 pub mod Held
+pub mod Homes
 pub mod Least
 pub mod Newest
 pub mod Passing

@@ -1,6 +1,6 @@
 -- The rules have at most one answer: each of their relations holds for at most one row and one
 -- plan.
-use Rattle.std.proofs.Common.{◌≡◌, ℕ, ◌≤◌, ◌==◌, ◌&&◌, ◌||◌, nat_lt, Bool, true, false, codes, List, [], Option, Some, None, IsSomeAnd, option_map, refl, sym, ap, ◌∙◌, subst, arith, if◌then◌else◌}
+use Rattle.std.proofs.Common.{◌≡◌, ℕ, ◌≤◌, ◌==◌, ◌&&◌, ◌||◌, nat_lt, Bool, true, false, codes, List, Option, Some, None, IsSomeAnd, option_map, refl, sym, ap, ◌∙◌, subst, arith, if◌then◌else◌}
 use Rattle.std.proofs.lemmas.Bool.{and_parts, eqb-true, false≢true}
 use Rattle.std.proofs.lemmas.Bool.Decides.{nat_tests}
 use Rattle.kd_classes.specs.HeldSet.{HeldSet}
@@ -8,14 +8,15 @@ use Rattle.kd_classes.specs.declared.definition.ClassDef.{ClassDef}
 use Rattle.kd_config.specs.declared.subnet.Subnet.{Subnet}
 use Rattle.kd_event.specs.declared.reason.Reason.{Reason}
 use Rattle.kd_event.specs.declared.reason.Reason.TheVariants as reasons
-use Rattle.kd_lease.specs.Change.{AnswersTo, Decides, ForClient, HasReplyOptions, Unless, WhereFits, after, asked_for, fits_in}
+use Rattle.kd_lease.proofs.Guards.{nothing}
+use Rattle.kd_lease.specs.Change.{AnswersTo, Decides, ForClient, HasReplyContent, Unless, WhereFits, after, asked_for, fits_in}
 use Rattle.kd_lease.specs.Choice.{Asking, Choice, IsFirstOf, Rank, address_reserved, changed_in, free_for, pool_place, place, same_address, set_later, usable}
 use Rattle.kd_lease.specs.Choice.Rank.{asked, expired, fresh, own, past, reserved}
 use Rattle.kd_lease.specs.Client.{identity_under, reply_room, requested_address, server_message}
 use Rattle.kd_lease.specs.Laws.{EndsDecide, OneAnswer, OneChange}
 use Rattle.kd_lease.specs.Plan.{Outcome}
 use Rattle.kd_lease.specs.Plan.Outcome.{planned, quiet}
-use Rattle.kd_lease.specs.ReplyOptions.{reply_options}
+use Rattle.kd_lease.specs.ReplyOptions.{reply_content}
 use Rattle.kd_lease.specs.Rules.{Does, IsAbout, IsChosen, IsChosenIn, IsNewest, IsReplyOf, IsSilent, Makes, Replies, Sets, ending, leased_row, declined_row, offered_to, released_row, row_of_offer, rule_of, serving_subnet}
 use Rattle.kd_lease.specs.declared.plan.PlanKind.{PlanKind}
 use Rattle.kd_lease.specs.declared.plan.PlanKind.TheVariants as kinds
@@ -39,12 +40,12 @@ One {B} R = (x u : Option Row) (y v : B) → R x y → R u v → (x ≡ u) × (y
 both_same : {B : Type 0} {x u z : Option Row} {y v w : B} → (x ≡ z) × (y ≡ w) → (u ≡ z) × (v ≡ w) → (x ≡ u) × (y ≡ v)
 both_same h k = (h.0 ∙ sym k.0, h.1 ∙ sym k.1)
 
--- an outcome without its options
+-- an outcome without its content
 abbrev bare : Outcome → Outcome
-bare (planned kind a options) = planned kind a []
+bare (planned kind a content) = planned kind a nothing
 bare (quiet reason) = quiet reason
 
--- a relation holds for at most one row and one outcome, apart from its options
+-- a relation holds for at most one row and one outcome, apart from its content
 abbrev OneBare : (Option Row → Outcome → Type 0) → Type 0
 OneBare R = (x u : Option Row) (y v : Outcome) → R x y → R u v → (x ≡ u) × (bare y ≡ bare v)
 
@@ -134,8 +135,8 @@ one_about q rules.Release x y f g = f ∙ sym g
 one_about q rules.Inform x y f g = f ∙ sym g
 one_about q rules.Server x y f g = f ∙ sym g
 
-bare_reply : (kind : PlanKind) (a : ℕ) (outcome : Outcome) → IsReplyOf kind a outcome → bare outcome ≡ planned kind a []
-bare_reply kind a (planned its b options) h = ap (λ (k : PlanKind). planned k b []) h.0 ∙ ap (λ (n : ℕ). planned kind n []) h.1
+bare_reply : (kind : PlanKind) (a : ℕ) (outcome : Outcome) → IsReplyOf kind a outcome → bare outcome ≡ planned kind a nothing
+bare_reply kind a (planned its b content) h = ap (λ (k : PlanKind). planned k b nothing) h.0 ∙ ap (λ (n : ℕ). planned kind n nothing) h.1
 bare_reply kind a (quiet reason) h = absurd h
 
 one_reply : (row : Option Row) (kind : PlanKind) (a : ℕ) → OneBare (Replies row kind a)
@@ -208,19 +209,19 @@ one_where_fits : (b : Bool) (row : Option Row) (outcome : Outcome) → One (Wher
 one_where_fits true row outcome x u y v h k = both_same h k
 one_where_fits false row outcome x u y v h k = both_same h k
 
--- an outcome with the options of a question
-abbrev with_options : Asking → Outcome → Outcome
-with_options q (planned kind a options) = planned kind a (reply_options q kind a)
-with_options q (quiet reason) = quiet reason
+-- an outcome with the content of a question
+abbrev with_content : Asking → Outcome → Outcome
+with_content q (planned kind a content) = planned kind a (reply_content q kind a)
+with_content q (quiet reason) = quiet reason
 
-whole : (q : Asking) (outcome : Outcome) → HasReplyOptions q outcome → outcome ≡ with_options q (bare outcome)
-whole q (planned kind a options) h = ap (planned kind a) h
+whole : (q : Asking) (outcome : Outcome) → HasReplyContent q outcome → outcome ≡ with_content q (bare outcome)
+whole q (planned kind a content) h = ap (planned kind a) h
 whole q (quiet reason) h = refl
 
 one_answers : (q : Asking) → One (AnswersTo q)
 one_answers q x u y v h k =
     let same = one_does q h.row k.row h.outcome k.outcome h.does k.does in
-    let outcomes : h.outcome ≡ k.outcome = whole q h.outcome h.options ∙ ap (with_options q) same.1 ∙ sym (whole q k.outcome k.options) in
+    let outcomes : h.outcome ≡ k.outcome = whole q h.outcome h.content ∙ ap (with_content q) same.1 ∙ sym (whole q k.outcome k.content) in
     let at : WhereFits (fits_in (reply_room q.message) k.outcome) k.row k.outcome x y =
     subst (λ (row : Option Row). WhereFits (fits_in (reply_room q.message) k.outcome) row k.outcome x y) same.0
     (subst (λ (outcome : Outcome). WhereFits (fits_in (reply_room q.message) outcome) h.row outcome x y) outcomes h.replies) in

@@ -1,20 +1,15 @@
 -- What an authoritative server does for clients of which it has no record, and who a client is.
-use Rattle.std.proofs.Common.{◌≡◌, ℕ, Bool, true, false, not, ◌||◌, List, [], ◌∷◌, Option, None, Some, is_some, if◌then◌else◌, refl, ap, ◌∙◌}
+use Rattle.std.proofs.Common.{◌≡◌, ℕ, Bool, true, false, not, ◌||◌, List, [], ◌∷◌, Option, Some, if◌then◌else◌, refl, ap, ◌∙◌}
 use Rattle.std.specs.List.{find}
-use Rattle.kd_config.specs.Configuration.{Configuration}
-use Rattle.kd_config.specs.Networks.{covers}
 use Rattle.kd_event.specs.declared.reason.Reason.TheVariants as reasons
 use Rattle.kd_lease.specs.Choice.{Asking}
-use Rattle.kd_lease.specs.Client.{client_identity, hardware_identity, identity_under, named_server}
-use Rattle.kd_lease.specs.Kept.{passes}
+use Rattle.kd_lease.specs.Client.{client_identity, hardware_identity}
 use Rattle.kd_lease.specs.Laws.{KnownByMessage, KnownByRecord, StrangersAreRefused}
-use Rattle.kd_lease.specs.Rules.{client_has, ending, ends_by, fails, holds_at, known_in, lasting_for, other_server, passes_in, serving_subnet}
+use Rattle.kd_lease.specs.Rules.{ends_by, fails, holds_at, known_in, other_server, serving_subnet}
 use Rattle.kd_lease.specs.declared.rule.Check.{Check}
 use Rattle.kd_lease.specs.declared.rule.Check.TheVariants as checks
 use Rattle.kd_lease.specs.declared.rule.Ending.{Ending}
 use Rattle.kd_lease.specs.declared.rule.Ending.TheVariants as ends
-use Rattle.kd_lease.specs.declared.rule.Rule.TheVariants as rules
-use Rattle.kd_options.specs.Message.{Seen}
 
 module _ (q : Asking) (a : ℕ) (done : Ending) where
   -- a message that passes a check ends as the checks behind it say

@@ -15,17 +15,17 @@ use Rattle.kd_lease.specs.Client.{identity_under, server_message, reply_room}
 use Rattle.kd_lease.specs.Plan.{Outcome}
 use Rattle.kd_lease.specs.Plan.Outcome.{planned, quiet}
 use Rattle.kd_lease.specs.ReplyOf.{within_room}
-use Rattle.kd_lease.specs.ReplyOptions.{reply_options}
+use Rattle.kd_lease.specs.ReplyOptions.{reply_content}
 use Rattle.kd_lease.specs.Rules.{Does}
 
--- a reply, if there is one, has its options
-abbrev pub HasReplyOptions : Asking → Outcome → Type 0
-HasReplyOptions q (planned kind yiaddr options) = options ≡ reply_options q kind yiaddr
-HasReplyOptions q (quiet reason) = Unit {0}
+-- a reply, if there is one, has its boot fields and its options
+abbrev pub HasReplyContent : Asking → Outcome → Type 0
+HasReplyContent q (planned kind yiaddr content) = content ≡ reply_content q kind yiaddr
+HasReplyContent q (quiet reason) = Unit {0}
 
 -- the mandatory options fit, if there is a reply
 abbrev pub fits_in : ℕ → Outcome → Bool
-fits_in room (planned kind yiaddr options) = within_room room options
+fits_in room (planned kind yiaddr content) = within_room room content.options
 fits_in room (quiet reason) = true
 
 -- this row is set and this is the result if the reply fits; otherwise no row is set and there is no
@@ -39,7 +39,7 @@ pub record AnswersTo (q : Asking) (set : Option Row) (got : Outcome) : Type 0 wh
   pub row : Option Row
   pub outcome : Outcome
   pub does : Does q row outcome
-  pub options : HasReplyOptions q outcome
+  pub content : HasReplyContent q outcome
   pub replies : WhereFits (fits_in (reply_room q.message) outcome) row outcome set got
 
 -- if the test holds, nothing is done and there is no reply, for this reason; else what follows

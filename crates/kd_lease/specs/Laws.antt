@@ -14,7 +14,7 @@ use Rattle.kd_rows.specs.declared.row.Row.{Row}
 use Rattle.kd_lease.specs.Change.{Changes, Decides}
 use Rattle.kd_lease.specs.Choice.{Asking, Choice, Rank, fitting_for, has_rank, live_row, usable}
 use Rattle.kd_lease.specs.Client.{client_identity, identity_under, kind_of, named_server}
-use Rattle.kd_lease.specs.Plan.{Outcome, ReplyOption}
+use Rattle.kd_lease.specs.Plan.{Content, Outcome}
 use Rattle.kd_lease.specs.Plan.Outcome.{planned}
 use Rattle.kd_lease.specs.Rules.{Does, IsAbout, Makes, Sets, client_has, ending, held_at, holds_at, known_in, lasting_for, renewable, rule_of, serving_subnet}
 use Rattle.kd_lease.specs.SubnetOf.{class_admits, first_serving, header_place, link_of, message_place, subnet_serving}
@@ -33,8 +33,8 @@ SetsNow =
 -- a NAK sets no row
 abbrev pub NakSetsNone : Type 0
 NakSetsNone =
-    (q : Asking) (type : MessageType) (set : Option Row) (a : ℕ) (options : List ReplyOption)
-    → Sets q type set (planned kinds.Nak a options) → set ≡ None
+    (q : Asking) (type : MessageType) (set : Option Row) (a : ℕ) (content : Content)
+    → Sets q type set (planned kinds.Nak a content) → set ≡ None
 
 -- a row that is not the client's and has not ended, whatever its state
 pub record IsAnothers (q : Asking) (a : ℕ) (row : Row) : Type 0 where
@@ -57,10 +57,10 @@ HeldIsNotUsable =
 -- and it is neither offered nor leased
 abbrev pub HeldIsNotGiven : Type 0
 HeldIsNotGiven =
-    (q : Asking) (type : MessageType) (set : Option Row) (a : ℕ) (options : List ReplyOption)
+    (q : Asking) (type : MessageType) (set : Option Row) (a : ℕ) (content : Content)
     (row : Row) → IsAnothers q a row
-    → Sets q type set (planned kinds.Offer a options)
-    ⊎ Sets q type set (planned kinds.Ack a options) → ⊥
+    → Sets q type set (planned kinds.Offer a content)
+    ⊎ Sets q type set (planned kinds.Ack a content) → ⊥
 
 -- what the end of a message of this type rests on: an address is offered to a DISCOVER if it is the
 -- choice for the client, leased to a REQUEST if the client may be assigned it or renew it, and held

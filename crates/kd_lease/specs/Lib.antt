@@ -1,4 +1,5 @@
 pub mod Aging
+pub mod Booting
 pub mod Change
 pub mod Choice
 pub mod Client
@@ -6,6 +7,8 @@ pub mod Cuts
 pub mod Decided
 pub mod Destination
 pub mod Given
+pub mod Keeper
+pub mod Keeping
 pub mod Kept
 pub mod Laws
 pub mod Leases

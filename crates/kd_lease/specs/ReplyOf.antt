@@ -1,9 +1,10 @@
 -- The reply to a message: its header, whether its options fit, and its bytes (RFC 2131 sections 4.1
 -- and 4.3, table 3).
-use Rattle.std.specs.Prelude.{◌≡◌, ℕ, ◌+◌, Bool, true, ◌==◌, List, [], ◌∷◌, Option, Some, None, map, replicate, length, nat_le, sum_by, bit_or, if◌then◌else◌}
+use Rattle.std.specs.Prelude.{◌≡◌, ℕ, ◌+◌, Bool, true, ◌==◌, List, [], ◌∷◌, Option, Some, None, map, length, nat_le, sum_by, bit_or, if◌then◌else◌}
 use Rattle.kd_options.specs.Reply.{cost_of, reply_text}
 use Rattle.kd_options.specs.declared.item.Item.{Item}
 use Rattle.kd_lease.specs.Plan.{ReplyOption, option_of_item}
+use Rattle.kd_lease.specs.declared.booting.BootFields.{BootFields}
 use Rattle.kd_lease.specs.declared.plan.PlanKind.{PlanKind}
 use Rattle.kd_lease.specs.declared.plan.PlanKind.TheVariants as kinds
 use Rattle.kd_wire.specs.declared.header.Header.{Header}
@@ -20,9 +21,9 @@ ciaddr_of_reply kinds.Ack h = h.ciaddr
 ciaddr_of_reply kinds.InformAck h = h.ciaddr
 ciaddr_of_reply kinds.Nak h = 0
 
--- the header of a reply to a message with this header
-unfoldable pub header_of_reply : PlanKind → ℕ → Header → Header
-header_of_reply kind yiaddr h = record {
+-- the header of a reply with these boot fields to a message with this header
+unfoldable pub header_of_reply : PlanKind → ℕ → BootFields → Header → Header
+header_of_reply kind yiaddr fields h = record {
   op = 2;
   htype = h.htype;
   hlen = h.hlen;
@@ -32,12 +33,16 @@ header_of_reply kind yiaddr h = record {
   flags = flags_of_reply kind h;
   ciaddr = ciaddr_of_reply kind h;
   yiaddr = yiaddr;
-  siaddr = 0;
+  siaddr = fields.siaddr;
   giaddr = h.giaddr;
   chaddr = h.chaddr;
-  sname = replicate 64 0;
-  file = replicate 128 0;
+  sname = fields.sname;
+  file = fields.file;
 }
+
+-- the boot fields in a header
+abbrev pub fields_in_header : Header → BootFields
+fields_in_header h = record { siaddr = h.siaddr; sname = h.sname; file = h.file }
 
 -- an option that is always written
 abbrev pub obligatory : ℕ → List ℕ → List ReplyOption

@@ -8,7 +8,8 @@ use Rattle.kd_config.specs.declared.times.Times.{Times}
 use Rattle.kd_options.specs.Joined.{value_of}
 use Rattle.kd_lease.specs.Choice.{Asking}
 use Rattle.kd_lease.specs.Given.{configured_options, given}
-use Rattle.kd_lease.specs.Plan.{ReplyOption}
+use Rattle.kd_lease.specs.Booting.{reply_fields}
+use Rattle.kd_lease.specs.Plan.{Content, ReplyOption}
 use Rattle.kd_lease.specs.ReplyOf.{obligatory, returned}
 use Rattle.kd_lease.specs.Rules.{serving_subnet}
 use Rattle.kd_lease.specs.declared.plan.PlanKind.{PlanKind}
@@ -56,3 +57,8 @@ reply_options q kind yiaddr =
     ++ times_in kind q.config.times
     ++ returned 61 (value_of 61 q.message.options) ++ configured_for q kind yiaddr
     ++ returned 82 (value_of 82 q.message.options)
+
+-- the content of a reply
+abbrev pub reply_content : Asking → PlanKind → ℕ → Content
+reply_content q kind yiaddr =
+    record { fields = reply_fields q kind yiaddr; options = reply_options q kind yiaddr }

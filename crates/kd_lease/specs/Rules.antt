@@ -267,7 +267,7 @@ ending q about rule = ends_by (find (fails q about) (checks_in rule)) (end_by ru
 
 -- what a message gets is a reply of this kind, which assigns this address or zero
 abbrev pub IsReplyOf : PlanKind → ℕ → Outcome → Type 0
-IsReplyOf kind a (planned its b options) = (its ≡ kind) × (b ≡ a)
+IsReplyOf kind a (planned its b content) = (its ≡ kind) × (b ≡ a)
 IsReplyOf kind a (quiet reason) = ⊥
 
 -- the newest offer to the client, if there is one, is released

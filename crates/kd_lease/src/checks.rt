@@ -3,12 +3,14 @@ ghost use Rattle.std.specs.List.{find};
 ghost use Rattle.std.specs.Option.{option_copied};
 ghost use Rattle.kd_config.specs.Networks.{covers};
 ghost use Rattle.kd_lease.specs.Choice.{fitting_for, free_for};
+ghost use Rattle.kd_lease.specs.Keeping.{is_record_here, keeper, keeps_it, keeps_pooled};
 ghost use Rattle.kd_lease.specs.Kept.{passes};
-ghost use Rattle.kd_lease.specs.Rules.{asking, client_has, ending, fails, held_at, holds_at, is_record, known_in, lasting_for, passes_in, serving_subnet};
+ghost use Rattle.kd_lease.specs.Rules.{asking, client_has, ending, fails, held_at, holds_at, known_in, lasting_for, passes_in, serving_subnet};
 
-use crate::fit::{fits, is_free, lasts};
+use crate::fit::{contains, fits, is_free, lasts};
 use crate::matter::Matter;
 use crate::question::Question;
+use crate::reservation::is_reserved;
 use crate::rule::{Check, Ending, Line};
 use crate::search::{is_client_at, is_held_at, knows_client};
 use crate::server::{names_other, server_of};
@@ -71,10 +73,41 @@ fn is_in_prefix(question: &Question<'_>, address: Option<u32>) -> bool
     ensures { result ≡ passes_in (covers question.now.config.now.subnets)
         (serving_subnet (asking question.now)) address }
 {
-    match (question.subnet, address) {
-        (Some(subnet), Some(address)) => question.config.spans(subnet, address),
-        _ => false,
+    match address {
+        Some(address) => is_here(question, address),
+        None => false,
     }
+}
+
+// Reports whether the subnet that serves the message, or another of its shared network, has an
+// address in its prefix. It does if the client keeps its lease of the address: then no subnet is asked.
+fn is_here(question: &Question<'_>, address: u32) -> bool
+    ensures { result ≡ passes_in (covers question.now.config.now.subnets)
+        (serving_subnet (asking question.now)) (Some address) }
+{
+    if keeps(question, address) {
+        true
+    } else {
+        spans(question, address)
+    }
+}
+
+// The same, by the prefixes of the subnets.
+fn spans(question: &Question<'_>, address: u32) -> bool
+    ensures { result ≡ passes_in (covers question.now.config.now.subnets)
+        (serving_subnet (asking question.now)) (Some address) }
+{
+    match question.subnet {
+        Some(subnet) => question.config.spans(subnet, address),
+        None => false,
+    }
+}
+
+// Reports whether the client keeps its lease of an address.
+fn keeps(question: &Question<'_>, address: u32) -> bool
+    ensures { result ≡ keeps_it (asking question.now) address }
+{
+    question.keeper.is_some() && question.message.header().ciaddr == address
 }
 
 // Reports whether the server is authoritative, or the client has a row in the subnet that serves the
@@ -86,36 +119,35 @@ fn is_authoritative_or_known(question: &Question<'_>, address: Option<u32>) -> b
     question.config.extensions().is_authoritative || is_known(question, address)
 }
 
-// Reports whether a subnet serves the message and the client has a row at an address of it.
+// Reports whether a subnet serves the message and the client has a row at an address of it. Mostly it
+// is that of the address that the message is about: then the client's rows are not searched.
 fn is_known(question: &Question<'_>, address: Option<u32>) -> bool
     ensures { let q = asking question.now in result ≡ known_in q (serving_subnet q) }
 {
-    match question.subnet {
-        Some(subnet) => is_known_in(question, subnet, address),
+    if is_record_at(question, address) {
+        true
+    } else {
+        has_record(question)
+    }
+}
+
+// Reports whether there is an address, and the client has a row there that is of the subnet that
+// serves the message.
+fn is_record_at(question: &Question<'_>, address: Option<u32>) -> bool
+    ensures { result ≡ passes (is_record_here (asking question.now)) address }
+{
+    match address {
+        Some(address) => is_client_at(question, address) && is_here(question, address),
         None => false,
     }
 }
 
-// Reports whether the client has a row at an address of a subnet. Mostly it is that of the address
-// that the message is about: then the client's rows are not searched.
-fn is_known_in(question: &Question<'_>, subnet: &Subnet, address: Option<u32>) -> bool
-    ensures { result ≡ known_in (asking question.now) (Some subnet.now) }
+// The same as `is_known`, by a search of the client's rows.
+fn has_record(question: &Question<'_>) -> bool
+    ensures { let q = asking question.now in result ≡ known_in q (serving_subnet q) }
 {
-    if is_record_at(question, subnet, address) {
-        true
-    } else {
-        knows_client(question, subnet)
-    }
-}
-
-// Reports whether there is an address, and the client has a row there that is of a subnet.
-fn is_record_at(question: &Question<'_>, subnet: &Subnet, address: Option<u32>) -> bool
-    ensures { result ≡ passes (is_record (asking question.now) subnet.now) address }
-{
-    match address {
-        Some(address) => {
-            is_client_at(question, address) && question.config.spans(subnet, address)
-        }
+    match question.subnet {
+        Some(subnet) => knows_client(question, subnet),
         None => false,
     }
 }
@@ -147,8 +179,35 @@ fn is_lasting(question: &Question<'_>, address: Option<u32>) -> bool
         result ≡ passes_in (lasting_for q) (serving_subnet q) address }
 {
     match (question.subnet, address) {
-        (Some(subnet), Some(address)) => lasts(question, subnet, address),
+        (Some(subnet), Some(address)) => is_renewable(question, subnet, address),
         _ => false,
+    }
+}
+
+// Reports whether an address may be renewed in this subnet, which serves the message. Mostly the
+// client keeps its lease of it, in a pool: then the pools of its network are not searched.
+fn is_renewable(question: &Question<'_>, subnet: &Subnet, address: u32) -> bool
+    requires { serving_subnet (asking question.now) ≡ Some subnet.now }
+    ensures { let q = asking question.now in
+        result ≡ passes_in (lasting_for q) (serving_subnet q) (Some address) }
+{
+    if keeps_in_pool(question, address) {
+        true
+    } else {
+        lasts(question, subnet, address)
+    }
+}
+
+// Reports whether the client keeps its lease of an address, which is in a pool and not reserved.
+fn keeps_in_pool(question: &Question<'_>, address: u32) -> bool
+    ensures { let q = asking question.now in result ≡ keeps_pooled q (keeper q) address }
+{
+    match question.keeper {
+        Some(part) => {
+            question.message.header().ciaddr == address
+                && (contains(part, address) && !is_reserved(question.config, address))
+        }
+        None => false,
     }
 }
 

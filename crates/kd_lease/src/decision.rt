@@ -4,6 +4,7 @@ ghost use Rattle.kd_lease.specs.Client.{reply_room};
 ghost use Rattle.kd_lease.specs.Decided.{IsAnswerTo, outcome_in, reply_in};
 ghost use Rattle.kd_lease.specs.Rules.{IsSetAt, asking};
 
+use crate::booting::fields_for;
 use crate::client::{is_from_server, room_of};
 use crate::effects::effect_of;
 use crate::grounds::Ground;
@@ -114,7 +115,12 @@ fn answer_with(
     let Outline { kind, yiaddr } = outline;
     let room = room_of(question.message);
     let reply = Reply {
-        header: reply_header(kind, yiaddr, question.message.header()),
+        header: reply_header(
+            kind,
+            yiaddr,
+            fields_for(question, kind, yiaddr),
+            question.message.header(),
+        ),
         items: reply_items(alloc, question, kind, yiaddr)?,
     };
     if !fits_room(&reply, room) {

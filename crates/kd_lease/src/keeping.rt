@@ -1,8 +1,10 @@
-ghost use Rattle.std.specs.Prelude.{◌≡◌, ◌==◌};
+ghost use Rattle.std.specs.Prelude.{◌≡◌, ◌==◌, option_map};
 ghost use Rattle.std.specs.List.{find};
 ghost use Rattle.std.specs.Option.{option_copied};
 ghost use Rattle.kd_lease.specs.Client.{kind_of};
-ghost use Rattle.kd_lease.specs.Kept.{has_to_keep, is_leased_in, kept_in, passes, renews_lease, subnet_keeping};
+ghost use Rattle.kd_config.specs.Networks.{home_of};
+ghost use Rattle.kd_lease.specs.Keeper.{keeper_in};
+ghost use Rattle.kd_lease.specs.Kept.{has_to_keep, is_leased_in, kept_in, passes, renews_lease};
 ghost use Rattle.kd_options.specs.Kind.{type_number};
 ghost use Rattle.kd_options.specs.declared.kind.MessageType.TheVariants as types;
 
@@ -20,6 +22,7 @@ use kd_rows::Rows;
 /// does (our own choice). A renewal is sent to the server alone, so no relay adds to it what the
 /// client's classes are chosen by (RFC 2131 section 4.4.5, RFC 3046): then no class guards the
 /// address.
+#[tactic(auto, using(crate::proofs::Homes::kept_home))]
 pub fn subnet_kept<'a>(
     over: Ground<'a>,
     message: &Message<'_>,
@@ -29,11 +32,38 @@ pub fn subnet_kept<'a>(
     ensures { option_copied result ≡ kept_in over.entry.config.now over.entry.rows.now.rows
         message.now moment client.now }
 {
+    home_of_keeper(over.config, keeper_of(over, message, client, moment))
+}
+
+// Returns the first subnet that has the address of the lease that a client keeps, if it does.
+pub(crate) fn keeper_of<'a>(
+    over: Ground<'a>,
+    message: &Message<'_>,
+    client: &[u8],
+    moment: u64,
+) -> Option<&'a Subnet>
+    ensures { option_copied result ≡ keeper_in over.entry.config.now over.entry.rows.now.rows
+        message.now moment client.now }
+{
     let keeps = over.config.extensions().keeps_leases;
     if keeps && renews(over.rows, message, client, moment) {
-        subnet_to_keep(over.config, message.header().ciaddr)
+        first_to_keep(over.config.subnets(), message.header().ciaddr)
     } else {
         None
+    }
+}
+
+// Returns the subnet in which a client keeps its lease, by the one that has its address.
+pub(crate) fn home_of_keeper<'a>(
+    config: &'a Config,
+    keeper: Option<&'a Subnet>,
+) -> Option<&'a Subnet>
+    ensures { option_copied result
+        ≡ option_map (home_of config.now.subnets) (option_copied keeper.entry) }
+{
+    match keeper {
+        Some(subnet) => Some(config.home(subnet)),
+        None => None,
     }
 }
 
@@ -64,17 +94,6 @@ fn is_leased_to(rows: &Rows, client: &[u8], moment: u64, address: Option<u32>) -
     match address {
         Some(address) => is_bound_to(rows, client, moment, address),
         None => false,
-    }
-}
-
-// Returns the subnet that has an address to keep: the shared network of the first that has it, or
-// that subnet itself.
-fn subnet_to_keep(config: &Config, address: u32) -> Option<&Subnet>
-    ensures { option_copied result ≡ subnet_keeping config.now.subnets address }
-{
-    match first_to_keep(config.subnets(), address) {
-        Some(subnet) => Some(config.home(subnet)),
-        None => None,
     }
 }
 

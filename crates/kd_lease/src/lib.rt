@@ -6,13 +6,14 @@
 //! effect on the table of leases is that of `specs/Rules.antt`, and the address that a client is
 //! offered is that of `specs/Choice.antt`; `specs/Laws.antt` says what is true of these rules for
 //! every table. The configured options of a reply are those that the configuration gives to the
-//! client (`specs/Given.antt`); its header and its destination are those of `specs/ReplyOf.antt`
-//! and `specs/Destination.antt`. All this holds for every table, whether or not it knows the
+//! client (`specs/Given.antt`), as are its boot fields (`specs/Booting.antt`); its header and its
+//! destination are those of `specs/ReplyOf.antt` and `specs/Destination.antt`. All this holds for every table, whether or not it knows the
 //! addresses that the configuration reserves (`Ground`); the table of `Leases`
 //! (`specs/Leases.antt`) knows them and skips them.
 #![tactic(auto)]
 
 mod ages;
+mod booting;
 mod candidates;
 mod changes;
 mod checks;
@@ -46,6 +47,7 @@ mod subnet;
 mod values;
 mod verdict;
 
+pub use booting::{BootFields, boot_given};
 pub use checks::{ending_of, holds};
 pub use client::asks_for;
 pub use decision::{decide, decide_on};

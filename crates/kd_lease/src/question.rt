@@ -1,11 +1,12 @@
 ghost use Rattle.std.specs.Prelude.{◌≡◌};
 ghost use Rattle.std.specs.Option.{option_copied, option_or};
+ghost use Rattle.kd_lease.specs.Keeper.{keeper_in};
 ghost use Rattle.kd_lease.specs.Kept.{kept_in};
 ghost use Rattle.kd_lease.specs.SubnetOf.{subnet_serving};
 ghost use Rattle.kd_lease.specs.Withholding.{KnowsReserved};
 
 use crate::grounds::Ground;
-use crate::keeping::subnet_kept;
+use crate::keeping::{home_of_keeper, keeper_of};
 use crate::subnet::subnet_of;
 use kd_config::{Config, Subnet};
 use kd_machine::Held;
@@ -33,7 +34,11 @@ pub struct Question<'a> {
     pub subnet: Option<&'a Subnet>,
     // The same table, if it knows the reserved addresses.
     pub(crate) known: Option<&'a Withheld>,
+    // The subnet that has the address of the lease that the client keeps, if it does.
+    pub(crate) keeper: Option<&'a Subnet>,
     ghost knows: { KnowsReserved config.now rows.now.rows (option_copied known) },
+    ghost keeper_is: { option_copied keeper
+        ≡ keeper_in config.now rows.now.rows message.now moment client.now },
     ghost keeps: { option_copied kept
         ≡ kept_in config.now rows.now.rows message.now moment client.now },
     ghost serves: { option_copied subnet
@@ -47,6 +52,7 @@ impl<'a> Question<'a> {
 
     /// Makes the question of a message, whose client has this identity and whose classes have these
     /// names, at a given time, in seconds.
+    #[tactic(auto, using(crate::proofs::Homes::kept_home))]
     pub fn new(
         over: Ground<'a>,
         names: &'a Held,
@@ -57,7 +63,8 @@ impl<'a> Question<'a> {
         ensures { asking result ≡ asked_for over.entry.config.now over.entry.rows.now.rows
             names.now message.now moment client.now }
     {
-        let kept = subnet_kept(over, message, client, moment);
+        let keeper = keeper_of(over, message, client, moment);
+        let kept = home_of_keeper(over.config, keeper);
         Question {
             config: over.config,
             rows: over.rows,
@@ -66,6 +73,7 @@ impl<'a> Question<'a> {
             client,
             moment,
             known: over.known,
+            keeper,
             kept,
             subnet: subnet_or(kept, over.config, names, message),
         }

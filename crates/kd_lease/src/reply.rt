@@ -2,19 +2,31 @@ ghost use Rattle.std.specs.Prelude.{◌≡◌, ◌++◌, ◌∷◌, [], IsTrue, 
 ghost use Rattle.kd_options.specs.Reply.{ItemsFit};
 ghost use Rattle.kd_lease.specs.Given.{optional};
 ghost use Rattle.kd_lease.specs.Plan.{option_of_item};
-ghost use Rattle.kd_lease.specs.ReplyOf.{within_room, obligatory, returned, ciaddr_of_reply, flags_of_reply, header_of_reply};
+ghost use Rattle.kd_lease.specs.ReplyOf.{within_room, obligatory, returned, ciaddr_of_reply, fields_in_header, flags_of_reply, header_of_reply};
 ghost use Rattle.kd_wire.specs.Area.{IsCode};
 
+use crate::booting::BootFields;
 use crate::plan::PlanKind;
 use kd_options::{Item, Reply};
 use kd_wire::{Bytes, Header};
 use std::alloc::{AllocError, Global};
 
-// Returns the header of the reply to a message with this header.
+// Returns the header of the reply with these boot fields to a message with this header.
 #[tactic(auto, unfolding(crate::specs::ReplyOf::header_of_reply))]
-pub(crate) fn reply_header(kind: PlanKind, yiaddr: u32, header: &Header) -> Header
-    ensures { result ≡ header_of_reply kind yiaddr header.now }
+pub(crate) fn reply_header(
+    kind: PlanKind,
+    yiaddr: u32,
+    fields: BootFields,
+    header: &Header,
+) -> Header
+    ensures same { result ≡ header_of_reply kind yiaddr fields header.now }
+    ensures fields { fields_in_header result ≡ fields }
 {
+    let BootFields {
+        siaddr,
+        sname,
+        file,
+    } = fields;
     Header {
         op: 2,
         htype: header.htype,
@@ -25,11 +37,11 @@ pub(crate) fn reply_header(kind: PlanKind, yiaddr: u32, header: &Header) -> Head
         flags: reply_flags(kind, header),
         ciaddr: reply_ciaddr(kind, header),
         yiaddr,
-        siaddr: 0,
+        siaddr,
         giaddr: header.giaddr,
         chaddr: header.chaddr,
-        sname: [0; 64],
-        file: [0; 128],
+        sname,
+        file,
     }
 }
 

@@ -18,10 +18,11 @@ use Rattle.kd_event.specs.declared.reason.Reason.TheVariants as reasons
 -- or nothing, for the reason given
 abbrev pub Responds : Ports → Seen → Outcome → Response → Type 0
 Responds ports m (quiet reason) response = response ≡ responses.Quiet reason
-Responds ports m (planned kind yiaddr options) (responses.Quiet reason) = ⊥
-Responds ports m (planned kind yiaddr options) (responses.Reply destination text) =
+Responds ports m (planned kind yiaddr content) (responses.Quiet reason) = ⊥
+Responds ports m (planned kind yiaddr content) (responses.Reply destination text) =
     (destination ≡ destination_of m.header kind yiaddr ports)
-    × IsReplyText (header_of_reply kind yiaddr m.header) (reply_room m) options text
+    × IsReplyText (header_of_reply kind yiaddr content.fields m.header) (reply_room m)
+    content.options text
 
 module _ {Table : Type 0} (latest : Table → ℕ)
     (Changes : Table → Seen → ℕ → Table → Outcome → Type 0) (ports : Ports) where

@@ -1,5 +1,5 @@
 use crate::support::{expect, is_written};
-use kd_classes::{ClassDef, ClassFault, Classes, OptionData, OptionList};
+use kd_classes::{Boot, ClassDef, ClassFault, Classes, OptionData, OptionList};
 use kd_wire::Bytes;
 use std::alloc::{AllocError, Global};
 use std::test::Fail;
@@ -10,6 +10,7 @@ fn define(alloc: Global, list: &mut Vec<ClassDef>, name: &[u8]) -> Result<(), Al
         name: Bytes::own(Vec::from_slice(alloc, name)?),
         test: None,
         options: OptionList::own(Vec::new(alloc)),
+        boot: Boot::none(),
     })?;
     Ok(())
 }

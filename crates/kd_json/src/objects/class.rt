@@ -10,7 +10,7 @@ use crate::objects::lists::EntryReader;
 use crate::objects::options::options_of;
 use crate::objects::values::{check_keys, own_bytes, text_or_none};
 use crate::rules::place::{Place, bad_value};
-use kd_classes::OptionList;
+use kd_classes::{Boot, OptionList};
 use kd_wire::Bytes;
 use serde_json::Value;
 use std::alloc::Global;
@@ -35,6 +35,8 @@ pub struct ClassEntry {
     pub source: TestSource,
     /// The options of the replies to its members.
     pub options: OptionList,
+    /// What it gives to the boot fields of these replies.
+    pub boot: Boot,
 }
 
 // Reads classes.
@@ -63,6 +65,7 @@ impl EntryReader for ClassReader {
             name,
             source,
             options,
+            boot: Boot::none(),
         })
     }
 }

@@ -75,11 +75,13 @@ fn definition_of(
         name,
         source,
         options,
+        boot,
     } = entry;
     let test = test_of(alloc, number, &source, files)?;
     Ok(ClassDef {
         name,
         test,
         options,
+        boot,
     })
 }

@@ -9,7 +9,7 @@ use crate::objects::faults::SettingsFault;
 use crate::objects::lists::EntryReader;
 use crate::objects::values::{address_in, bytes_or_none, check_keys};
 use crate::rules::place::{Place, bad_value, missing};
-use kd_classes::OptionList;
+use kd_classes::{BootList, OptionList};
 use kd_config::{Identity, Reservation};
 use kd_wire::Bytes;
 use serde_json::Value;
@@ -37,6 +37,7 @@ impl EntryReader for ReservationReader {
                 identity,
                 address,
                 options: OptionList::own(Vec::new(alloc)),
+                boots: BootList::own(Vec::new(alloc)),
             }),
             None => Err(bad_value(alloc, at, "ip-address")),
         }

@@ -13,7 +13,7 @@ use crate::objects::reservation::ReservationReader;
 use crate::objects::values::{check_keys, number_or, text_or_none};
 use crate::rules::place::{Place, bad_value};
 use crate::text::prefix::prefix_of;
-use kd_classes::OptionList;
+use kd_classes::{Boot, OptionList};
 use kd_config::{Prefix, Reservations, Subnet};
 use kd_wire::{Bytes, Entries};
 use serde_json::Value;
@@ -63,6 +63,7 @@ fn subnet_of_lists(
         options,
         network: 0,
         shared: OptionList::own(Vec::new(alloc)),
+        boot: Boot::none(),
     })
 }
 

@@ -3,6 +3,7 @@ ghost use Rattle.serde_json.specs.View.{view};
 ghost use Rattle.kd_kea.specs.Notes.{above_by, around_of, is_not_failed, kea_address, kea_below, kea_beside, all_times};
 
 use crate::objects::alone::read_alone;
+use crate::objects::boot::written_boot;
 use crate::objects::definition::{Definition, known_definitions};
 use crate::objects::flags::{flag_at, flag_in, flag_or_default};
 use crate::objects::host_name::{names_are_bare, server_names_are_bare};
@@ -15,6 +16,7 @@ use crate::objects::subnet::{Above, SubnetReader, may_be_beside, pools_of};
 use crate::objects::times::{
     Shares, shares_in, times_of, written_lifetime, written_rebind, written_renew,
 };
+use kd_classes::Boot;
 use kd_config::Times;
 use kd_json::objects::faults::SettingsFault;
 use kd_json::objects::lists::{EntryReader, entries_of};
@@ -39,6 +41,8 @@ pub(crate) struct Around {
     pub(crate) bare: bool,
     // What holds of clients.
     pub(crate) policy: Option<Policy>,
+    // What is given to the boot fields, unless a subnet gives something else.
+    pub(crate) boot: Option<Boot>,
     // The lease time, T1 and T2, in seconds.
     pub(crate) lifetime: Option<u32>,
     pub(crate) renew: Option<u32>,
@@ -62,6 +66,7 @@ pub(super) fn read_around(
         outside: flag_in(dhcp4, "reservations-out-of-pool"),
         bare: server_names_are_bare(dhcp4),
         policy: written_policy(dhcp4),
+        boot: written_boot(dhcp4),
         lifetime: written_lifetime(dhcp4),
         renew: written_renew(dhcp4),
         rebind: written_rebind(dhcp4),
@@ -138,6 +143,7 @@ pub(super) fn above_in(around: Around) -> Option<Above>
     let calculated = around.calculated?;
     let outside = around.outside?;
     let policy = around.policy?;
+    let boot = around.boot?;
     Some(Above {
         server,
         times,
@@ -146,6 +152,7 @@ pub(super) fn above_in(around: Around) -> Option<Above>
         outside,
         bare: around.bare,
         policy,
+        boot,
     })
 }
 

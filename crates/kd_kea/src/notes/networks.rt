@@ -3,20 +3,22 @@ ghost use Rattle.std.specs.List.{list_any};
 ghost use Rattle.serde_json.specs.Find.{as_str, get};
 ghost use Rattle.serde_json.specs.View.{view};
 ghost use Rattle.kd_config.specs.Address.{has_address};
-ghost use Rattle.kd_kea.specs.Notes.{above_by, around_members, inside_notes, is_not_failed, kea_inside, network_below, network_lists, network_notes, network_own, network_values, outside_in, prefix_given};
+ghost use Rattle.kd_kea.specs.Notes.{above_by, around_members, boot_in, inside_notes, is_not_failed, kea_inside, network_below, network_lists, network_notes, network_own, network_values, outside_in, prefix_given};
 
 use crate::notes::NoteKind;
 use crate::notes::around::{Around, above_in};
 use crate::notes::list::NoteList;
 use crate::notes::objects::{RelayObject, SubnetObject, note_keys, note_part_options};
-use crate::notes::values::{note_flag, note_inherited, note_text};
+use crate::notes::values::{note_boot, note_flag, note_inherited, note_text};
 use crate::notes::walk::{Listed, NotedObject, append_checked, note_failed, note_list, note_value};
 use crate::objects::alone::read_alone;
+use crate::objects::boot::written_boot;
 use crate::objects::definition::Definition;
 use crate::objects::host_name::names_are_bare;
 use crate::objects::network::{NetworkReader, has_own_interface};
 use crate::objects::subnet::written_prefix;
 use crate::tables::ObjectKind;
+use kd_classes::Boot;
 use kd_config::Prefix;
 use kd_json::objects::faults::SettingsFault;
 use kd_json::objects::lists::{EntryReader, entries_of};
@@ -174,7 +176,8 @@ fn note_network_own(notes: &mut NoteList, network: &Value, path: &str) -> Result
     let named = has_name(network);
     note_failed(notes, named, path, "name", NoteKind::Wrong)?;
     note_text(notes, network, path, "client-class")?;
-    note_flag(notes, network, path, "reservations-out-of-pool")
+    note_flag(notes, network, path, "reservations-out-of-pool")?;
+    note_boot(notes, network, path)
 }
 
 // Reports whether a network has a name.
@@ -232,6 +235,7 @@ fn around_inside(network: &Value, around: Around) -> Around
         outside: written_outside(network, around.outside),
         bare: names_are_bare(network, around.bare),
         policy: around.policy,
+        boot: boot_inside(network, around.boot),
         lifetime: around.lifetime,
         renew: around.renew,
         rebind: around.rebind,
@@ -249,4 +253,15 @@ fn written_outside(network: &Value, above: Option<bool>) -> Option<bool>
         Some(value) => value.as_bool(),
         None => Some(other),
     }
+}
+
+// Returns what is given to the boot fields above the members of a network, if all that says so is
+// right.
+#[tactic(auto, unfolding(crate::specs::Notes::boot_in))]
+fn boot_inside(network: &Value, above: Option<Boot>) -> Option<Boot>
+    ensures { result ≡ boot_in above (view network.now) }
+{
+    let above = above?;
+    let boot = written_boot(network)?;
+    Some(boot.or(above))
 }

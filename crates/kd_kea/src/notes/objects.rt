@@ -14,8 +14,8 @@ use crate::notes::around::{Around, BelowReader, is_beside, read_around};
 use crate::notes::list::NoteList;
 use crate::notes::networks::NetworkObject;
 use crate::notes::values::{
-    note_name, note_server_flags, note_server_times, note_server_values, note_subnet_own,
-    note_subnet_values, note_text,
+    note_boot, note_name, note_server_flags, note_server_times, note_server_values,
+    note_subnet_own, note_subnet_values, note_text,
 };
 use crate::notes::walk::{
     Listed, NotedObject, append_checked, note_each, note_failed, note_list, note_value,
@@ -176,6 +176,7 @@ impl<'a> NotedObject for ClassObject<'a> {
             NoteKind::Wrong,
         )?;
         note_text(&mut inner, class, path, "test")?;
+        note_boot(&mut inner, class, path)?;
         note_definitions(&mut inner, class, path, true)?;
         note_options(&mut inner, class, path, scope)?;
         append_checked(
@@ -337,6 +338,7 @@ impl<'a> NotedObject for HostObject<'a> {
         let mut inner = NoteList::new(notes.allocator());
         note_keys(&mut inner, host, path, ObjectKind::Reservation)?;
         note_name(&mut inner, host, path, self.reader.bare)?;
+        note_boot(&mut inner, host, path)?;
         note_part_options(&mut inner, host, path, self.reader.known)?;
         append_checked(notes, inner, &self.reader, host, path)
     }

@@ -4,7 +4,7 @@ ghost use Rattle.serde_json.specs.View.{view};
 ghost use Rattle.kd_config.specs.Sound.{longest_lease};
 ghost use Rattle.kd_json.specs.Subnet.{subnet_prefix};
 ghost use Rattle.kd_json.specs.Values.{number_if_given, text_if_given};
-ghost use Rattle.kd_kea.specs.Notes.{calculated_notes, flag_note, hook_kind, hook_notes, inherited_notes, interface_notes, lease_notes, limit_notes, name_notes, number_note, off_notes, policy_notes, repeated_notes, repeated_shares, server_flags, server_times, server_values, service_notes, share_notes, subnet_own, subnet_values, text_note, time_note, unused_share, unused_shares, usual_note};
+ghost use Rattle.kd_kea.specs.Notes.{boot_notes, calculated_notes, flag_note, hook_kind, hook_notes, inherited_notes, interface_notes, lease_notes, limit_notes, name_notes, number_note, off_notes, policy_notes, repeated_notes, repeated_shares, server_flags, server_times, server_values, service_notes, share_notes, subnet_own, subnet_values, text_note, time_note, unused_share, unused_shares, usual_note};
 ghost use Rattle.kd_kea.specs.Rows.{plain_of};
 
 use crate::keys::{UsualValue, is_usual};
@@ -14,6 +14,7 @@ use crate::notes::list::NoteList;
 use crate::notes::walk::{NotedObject, append_checked, note_failed, note_value};
 use crate::notes::wholes::NameReader;
 use crate::objects::alone::read_alone;
+use crate::objects::boot::{written_file, written_name, written_server};
 use crate::objects::flags::{flag_in, is_usual_at};
 use crate::objects::hooks::are_quiet_hooks;
 use crate::objects::host_name::may_have_name;
@@ -418,10 +419,11 @@ pub(super) fn note_subnet_own(
     note_number(notes, subnet, path, id)?;
     note_failed(notes, prefix.is_some(), path, "subnet", NoteKind::Wrong)?;
     note_text(notes, subnet, path, "client-class")?;
-    note_flag(notes, subnet, path, "reservations-out-of-pool")
+    note_flag(notes, subnet, path, "reservations-out-of-pool")?;
+    note_boot(notes, subnet, path)
 }
 
-// Notes the truth values of the whole server that are none.
+// Notes the truth values and the boot fields of the whole server that are wrong.
 #[tactic(auto, unfolding(crate::specs::Notes::server_flags))]
 pub(super) fn note_server_flags(
     notes: &mut NoteList,
@@ -432,7 +434,21 @@ pub(super) fn note_server_flags(
 {
     note_flag(notes, dhcp4, path, "reservations-out-of-pool")?;
     note_flag(notes, dhcp4, path, "authoritative")?;
-    note_flag(notes, dhcp4, path, "match-client-id")
+    note_flag(notes, dhcp4, path, "match-client-id")?;
+    note_boot(notes, dhcp4, path)
+}
+
+// Notes the keys for the boot fields that are wrong, each by itself.
+#[tactic(auto, unfolding(crate::specs::Notes::boot_notes))]
+pub(super) fn note_boot(notes: &mut NoteList, object: &Value, path: &str) -> Result<(), AllocError>
+    ensures { OnOk result (notes.new ≡ notes.old ++ boot_notes path.now (view object.now)) }
+{
+    let server = written_server(object).is_some();
+    note_failed(notes, server, path, "next-server", NoteKind::Wrong)?;
+    let name = written_name(object).is_some();
+    note_failed(notes, name, path, "server-hostname", NoteKind::Wrong)?;
+    let file = written_file(object).is_some();
+    note_failed(notes, file, path, "boot-file-name", NoteKind::Wrong)
 }
 
 // A key of a number, and its range.

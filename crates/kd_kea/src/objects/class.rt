@@ -7,6 +7,7 @@ ghost use Rattle.kd_json.specs.declared.objects.faults.SettingsFault.TheVariants
 ghost use Rattle.kd_kea.specs.Class.{kea_class_options, kea_class, source_by};
 
 use crate::checking::check_keys;
+use crate::objects::boot::own_boot_of;
 use crate::objects::definition::{Definition, definitions_of};
 use crate::objects::flags::non_empty;
 use crate::objects::options::options_of;
@@ -51,10 +52,12 @@ impl<'a> EntryReader for ClassReader<'a> {
         };
         let text = text_or_none(alloc, value, at, "test")?;
         let options = options_of_class(alloc, value, at, self.known)?;
+        let boot = own_boot_of(alloc, value, at)?;
         Ok(ClassEntry {
             name,
             source: source_of(non_empty(text)),
             options,
+            boot,
         })
     }
 }

@@ -2,6 +2,7 @@
 //! what they describe.
 
 pub(crate) mod alone;
+pub(crate) mod boot;
 pub(crate) mod class;
 pub(crate) mod definition;
 pub(crate) mod document;

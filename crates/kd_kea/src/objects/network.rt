@@ -8,6 +8,7 @@ ghost use Rattle.kd_json.specs.declared.objects.faults.SettingsFault.TheVariants
 ghost use Rattle.kd_kea.specs.Network.{above_members, all_subnets, as_member, has_network_form, is_in_one_of, is_for_each, is_interface_of, kea_common, kea_member, kea_network, kea_subnets, may_be_of, numbered, one_class, relays_or, with_network};
 
 use crate::checking::check_keys;
+use crate::objects::boot::boot_of;
 use crate::objects::definition::Definition;
 use crate::objects::flags::{flag_or_default, non_empty, text_at};
 use crate::objects::host_name::names_are_bare;
@@ -18,7 +19,7 @@ use crate::objects::scope::part_scope;
 use crate::objects::subnet::{Above, SubnetReader};
 use crate::objects::times::check_times;
 use crate::tables::ObjectKind;
-use kd_classes::OptionList;
+use kd_classes::{Boot, OptionList};
 use kd_config::{Pool, Reservation, Subnet, class_copied, options_copied};
 use kd_json::objects::faults::SettingsFault;
 use kd_json::objects::lists::{EntryReader, entries_of};
@@ -138,8 +139,9 @@ impl<'a> EntryReader for NetworkReader<'a> {
         let common = common_of(alloc, value, at, self.known)?;
         let key = "reservations-out-of-pool";
         let outside = flag_or_default(alloc, value, at, key, self.above.outside)?;
+        let boot = boot_of(alloc, value, at)?;
         let reader = MemberReader {
-            above: above_in(value, self.above, outside),
+            above: above_in(value, self.above, outside, boot),
             known: self.known,
             common: &common,
         };
@@ -201,9 +203,9 @@ fn common_of(
     })
 }
 
-// Returns what holds above the members of a network.
-fn above_in(network: &Value, above: Above, outside: bool) -> Above
-    ensures { result ≡ above_members above outside (view network.now) }
+// Returns what holds above the members of a network, which gives this to the boot fields.
+fn above_in(network: &Value, above: Above, outside: bool, boot: Boot) -> Above
+    ensures { result ≡ above_members above outside boot (view network.now) }
 {
     Above {
         server: above.server,
@@ -213,6 +215,7 @@ fn above_in(network: &Value, above: Above, outside: bool) -> Above
         outside,
         bare: names_are_bare(network, above.bare),
         policy: above.policy,
+        boot: boot.or(above.boot),
     }
 }
 
@@ -304,6 +307,7 @@ fn member_of(
         options: subnet.options,
         network: 0,
         shared: options_copied(alloc, common.options.as_slice())?,
+        boot: subnet.boot,
     })
 }
 

@@ -1,6 +1,7 @@
 ghost use Rattle.kd_kea.specs.Reservation.{kea_reservation};
 
 use crate::checking::check_keys;
+use crate::objects::boot::{boot_list, own_boot_of};
 use crate::objects::definition::Definition;
 use crate::objects::host_name::host_options_of;
 use crate::objects::whole_bytes::check_whole;
@@ -46,10 +47,12 @@ impl<'a> EntryReader for ReservationReader<'a> {
             return Err(bad_value(alloc, at, "ip-address"));
         };
         let options = host_options_of(alloc, value, at, self.known, self.bare)?;
+        let boot = own_boot_of(alloc, value, at)?;
         Ok(Reservation {
             identity,
             address,
             options,
+            boots: boot_list(alloc, boot)?,
         })
     }
 }

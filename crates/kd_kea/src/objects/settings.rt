@@ -13,6 +13,7 @@ ghost use Rattle.kd_kea.specs.Settings.{finds_reservations, has_server_form, kea
 
 use crate::checking::check_keys;
 use crate::keys::{UsualValue, is_usual};
+use crate::objects::boot::boot_of;
 use crate::objects::class::ClassReader;
 use crate::objects::definition::{Definition, known_definitions};
 use crate::objects::flags::{check_usual, flag_at, is_usual_at};
@@ -67,6 +68,7 @@ pub(crate) fn settings_of(
     let times = times_of(alloc, value, at, calculated)?;
     let outside = flag_at(alloc, value, at, "reservations-out-of-pool")?;
     let policy = policy_of(alloc, value, at)?;
+    let boot = boot_of(alloc, value, at)?;
     let known = known_definitions(alloc, value, at)?;
     let options = options_of(alloc, value, at, scope_of_all(known.as_slice()))?;
     let server = address_of(alloc, options.as_slice(), at, server)?;
@@ -78,6 +80,7 @@ pub(crate) fn settings_of(
         outside,
         bare: server_names_are_bare(value),
         policy,
+        boot,
     };
     settings_of_lists(alloc, value, at, known.as_slice(), options, above)
 }

@@ -13,6 +13,7 @@ ghost use Rattle.kd_kea.specs.Pool.{kea_pool};
 ghost use Rattle.kd_kea.specs.Subnet.{has_subnet_form, is_at_server, kea_subnet, kea_subnet_with, lies_outside, stand_beside};
 
 use crate::checking::check_keys;
+use crate::objects::boot::boot_of;
 use crate::objects::definition::Definition;
 use crate::objects::flags::{flag_or_default, non_empty};
 use crate::objects::host_name::names_are_bare;
@@ -25,7 +26,7 @@ use crate::objects::reservation::ReservationReader;
 use crate::objects::scope::part_scope;
 use crate::objects::times::{Shares, check_times};
 use crate::tables::ObjectKind;
-use kd_classes::OptionList;
+use kd_classes::{Boot, OptionList};
 use kd_config::{Pool, Prefix, Reservation, Reservations, Subnet, Times};
 use kd_json::objects::faults::SettingsFault;
 use kd_json::objects::lists::{EntryReader, entries_of};
@@ -53,6 +54,8 @@ pub(crate) struct Above {
     pub(crate) bare: bool,
     // What holds of clients.
     pub(crate) policy: Policy,
+    // What is given to the boot fields, unless a subnet gives something else.
+    pub(crate) boot: Boot,
 }
 
 // Reads subnets.
@@ -90,7 +93,16 @@ impl<'a> EntryReader for SubnetReader<'a> {
             known: self.known,
             bare: names_are_bare(value, self.above.bare),
         };
-        subnet_of_lists(alloc, value, at, hosts, outside, prefix, non_empty(class))
+        subnet_of_lists(
+            alloc,
+            value,
+            at,
+            hosts,
+            outside,
+            self.above.boot,
+            prefix,
+            non_empty(class),
+        )
     }
 }
 
@@ -158,7 +170,8 @@ pub(crate) fn written_prefix(subnet: &Value) -> Option<Prefix>
 }
 
 // Builds the subnet of a prefix and a class with the lists in a value, by the definitions of options
-// with which its reservations are read. It is in no network.
+// with which its reservations are read and what is given to the boot fields above it. It is in no
+// network.
 #[tactic(auto, unfolding(crate::specs::Subnet::kea_subnet_with))]
 fn subnet_of_lists(
     alloc: Global,
@@ -166,11 +179,12 @@ fn subnet_of_lists(
     at: &Place<'_>,
     hosts: ReservationReader<'_>,
     outside: bool,
+    above: Boot,
     prefix: Prefix,
     class: Option<Bytes>,
 ) -> Result<Subnet, SettingsFault>
     ensures { Means Memory result
-        (kea_subnet_with hosts.entry.known.now hosts.entry.bare outside prefix class
+        (kea_subnet_with hosts.entry.known.now hosts.entry.bare outside above prefix class
         (view value.now)) }
 {
     let relays = relays_in(alloc, value, at)?;
@@ -184,6 +198,7 @@ fn subnet_of_lists(
         reservations.as_slice(),
     )?;
     let options = options_of(alloc, value, at, part_scope(hosts.known))?;
+    let boot = boot_of(alloc, value, at)?;
     let reservations = Reservations::own(alloc, reservations.into_vec())?;
     Ok(Subnet {
         prefix,
@@ -194,6 +209,7 @@ fn subnet_of_lists(
         options,
         network: 0,
         shared: OptionList::own(Vec::new(alloc)),
+        boot: boot.or(above),
     })
 }
 

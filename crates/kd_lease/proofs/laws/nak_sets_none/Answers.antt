@@ -4,4 +4,4 @@ use Rattle.kd_lease.proofs.Guards.{guarded}
 use Rattle.kd_lease.proofs.laws.nak_sets_none.Goals as goal
 
 pub returns : goal.returns
-returns c = λ q type set a options h. (guarded q type set (planned kinds.Nak a options) h).nak tt
+returns c = λ q type set a content h. (guarded q type set (planned kinds.Nak a content) h).nak tt

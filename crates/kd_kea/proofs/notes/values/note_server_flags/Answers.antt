@@ -1,11 +1,11 @@
 use Rattle.std.proofs.lemmas.Result.{on_ok_weaker}
-use Rattle.kd_kea.proofs.Noted.{three_joined}
+use Rattle.kd_kea.proofs.Noted.{four_joined}
 use Rattle.kd_kea.specs.Notes.{server_flags}
 use Rattle.kd_kea.proofs.notes.values.note_server_flags.Goals as goal
 
 pub returns : goal.returns
 unfolding server_flags
 returns c =
-    on_ok_weaker c.note_flag-3.result
-    (three_joined _ _ _ _ _ _ _ c.in_ok-note_flag.ensures c.in_ok-note_flag-2.ensures)
-    c.note_flag-3.ensures
+    on_ok_weaker c.note_boot.result
+    (four_joined _ _ _ _ _ _ _ _ _ c.in_ok-note_flag.ensures c.in_ok-note_flag-2.ensures c.in_ok-note_flag-3.ensures)
+    c.note_boot.ensures

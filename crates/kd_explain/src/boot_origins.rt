@@ -1,0 +1,105 @@
+ghost use Rattle.std.specs.Prelude.{◌≡◌, ℕ, ◌<◌, ◌∷◌, [], MatchOption, false, length, true};
+ghost use Rattle.kd_lease.specs.Booting.{class_boots, reserved_boots};
+ghost use Rattle.kd_explain.specs.BootLines.{IsBootOrigin, class_gives, gives_field, one_gives};
+
+use crate::origins::Origin;
+use kd_classes::{Boot, ClassDef, Classes};
+use kd_config::{Config, Subnet};
+use kd_lease::reservation_of;
+use kd_machine::Held;
+use kd_options::Message;
+
+/// A field of a reply by which its client boots (RFC 2131 section 2, figure 1).
+#[derive(Clone, Copy, PartialEq, Eq)]
+pub enum BootField {
+    /// The address of the next server.
+    Siaddr,
+    /// The name of that server.
+    Sname,
+    /// The name of the boot file.
+    File,
+}
+
+/// Returns where the value of a boot field comes from at an address, in host order, of a subnet,
+/// for the client of a message, which is a member of the classes with these names. This is the
+/// first of reservation, classes in order and subnet that gives it a value; `None` if none does. In
+/// a shared network the subnet is the one that has the address.
+pub fn boot_origin_of(
+    config: &Config,
+    subnet: &Subnet,
+    names: &Held,
+    message: &Message<'_>,
+    address: u32,
+    field: BootField,
+) -> Option<Origin>
+    ensures { IsBootOrigin config.now subnet.now names.now message.now address field result }
+{
+    if reservation_gives(message, subnet, field) {
+        return Some(Origin::Reservation);
+    }
+    if let Some(index) = class_giving(config.classes(), names, field) {
+        return Some(Origin::Class(index));
+    }
+    let part = config.member_with(subnet, address);
+    if gives(part.boot, field) {
+        Some(Origin::Subnet)
+    } else {
+        None
+    }
+}
+
+// Reports whether the reservation for the client of a message gives a value to a field.
+fn reservation_gives(message: &Message<'_>, subnet: &Subnet, field: BootField) -> bool
+    ensures { result ≡ one_gives field (reserved_boots message.now subnet.now) }
+{
+    match reservation_of(message, subnet) {
+        Some(reservation) => any_gives(reservation.boots.as_slice(), field),
+        None => false,
+    }
+}
+
+// Returns the index of the first class that gives a value to a field and of which the client is a
+// member.
+fn class_giving(classes: &Classes, names: &Held, field: BootField) -> Option<usize>
+    ensures { MatchOption result
+        ((j : ℕ) → class_gives classes.now names.now field j ≡ false)
+        (λ i. (i < length classes.now) × (class_gives classes.now names.now field i ≡ true)
+        × ((j : ℕ) → j < i → class_gives classes.now names.now field j ≡ false)) }
+{
+    for i in 0..classes.len() {
+        match classes.def_at(i) {
+            Some(class) => {
+                if gives_to_members(class, names, field) {
+                    return Some(i);
+                }
+            }
+            None => unreachable!(),
+        }
+    }
+    None
+}
+
+// Reports whether the client is a member of the class and the class gives a value to a field.
+fn gives_to_members(class: &ClassDef, names: &Held, field: BootField) -> bool
+    ensures { result ≡ one_gives field (class_boots (class.now ∷ []) names.now) }
+{
+    names.contains(class.name.as_slice()) && gives(class.boot, field)
+}
+
+// Reports whether one of these gives a value to a field.
+fn any_gives(boots: &[Boot], field: BootField) -> bool
+    ensures { result ≡ one_gives field boots.now }
+{
+    boots.iter().any(|boot| gives(*boot, field))
+}
+
+// Reports whether a value is given to a field.
+fn gives(boot: Boot, field: BootField) -> bool
+    ensures { result ≡ gives_field field boot }
+{
+    match field {
+        BootField::Siaddr => boot.next_server.is_some(),
+        BootField::Sname => boot.server_name.is_some(),
+        BootField::File => boot.file_name.is_some(),
+    }
+}

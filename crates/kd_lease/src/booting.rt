@@ -1,0 +1,131 @@
+ghost use Rattle.std.specs.Prelude.{◌≡◌, ◌∷◌, []};
+ghost use Rattle.kd_classes.specs.Boot.{first_boot};
+ghost use Rattle.kd_lease.specs.Booting.{boots_given, class_boots, fields_in, fields_of, reply_fields, reserved_boots};
+ghost use Rattle.kd_lease.specs.Rules.{asking, serving_subnet};
+
+use crate::plan::PlanKind;
+use crate::question::Question;
+use crate::reservation::reservation_of;
+use kd_classes::{Boot, ClassDef, Classes};
+use kd_config::{Config, Subnet};
+use kd_machine::Held;
+use kd_options::Message;
+
+/// The fields of a reply by which its client boots (RFC 2131 section 2, figure 1).
+#[derive(Clone, Copy)]
+pub struct BootFields {
+    /// The address of the next server, in host order; 0 if there is none.
+    pub siaddr: u32,
+    /// The name of that server, and zeros after it.
+    pub sname: [u8; 64],
+    /// The name of the boot file, and zeros after it.
+    pub file: [u8; 128],
+}
+
+// Returns the boot fields of a reply of a kind that assigns an address or none.
+#[tactic(auto, unfolding(crate::specs::Booting::reply_fields))]
+pub(crate) fn fields_for(question: &Question<'_>, kind: PlanKind, yiaddr: u32) -> BootFields
+    ensures { result ≡ reply_fields (asking question.now) kind yiaddr }
+{
+    match kind {
+        PlanKind::Offer => fields_at(question, yiaddr),
+        PlanKind::Ack => fields_at(question, yiaddr),
+        PlanKind::InformAck => fields_at(question, question.message.header().ciaddr),
+        PlanKind::Nak => fields_from(Boot::none()),
+    }
+}
+
+// Returns the boot fields at an address of the message's subnet, if there is a subnet.
+fn fields_at(question: &Question<'_>, address: u32) -> BootFields
+    ensures { let q = asking question.now in result ≡ fields_in q (serving_subnet q) address }
+{
+    match question.subnet {
+        Some(subnet) => fields_from(boot_given(
+            question.config,
+            question.names,
+            subnet,
+            question.message,
+            address,
+        )),
+        None => fields_from(Boot::none()),
+    }
+}
+
+// Returns the fields of a reply with these values.
+fn fields_from(boot: Boot) -> BootFields
+    ensures { result ≡ fields_of boot }
+{
+    BootFields {
+        siaddr: boot.next_server.unwrap_or(0),
+        sname: boot.server_name.unwrap_or([0; 64]),
+        file: boot.file_name.unwrap_or([0; 128]),
+    }
+}
+
+/// Returns what is given to the boot fields at an address, in host order, of a subnet, for the client
+/// of a message, which is in the classes with these names: each value is that of the first that has
+/// one, of the client's reservation, its classes in order, and the subnet. In a shared network the
+/// subnet is the one that has the address.
+#[tactic(auto, unfolding(crate::specs::Booting::boots_given), using(crate::proofs::Boots::three_boots))]
+pub fn boot_given(
+    config: &Config,
+    names: &Held,
+    subnet: &Subnet,
+    message: &Message<'_>,
+    address: u32,
+) -> Boot
+    ensures { result
+        ≡ first_boot (boots_given config.now subnet.now names.now message.now address) }
+{
+    reservation_boot(message, subnet)
+        .or(class_boot(config.classes(), names))
+        .or(config.boot_at(subnet, address))
+}
+
+// Returns what the reservation for the client of a message gives.
+fn reservation_boot(message: &Message<'_>, subnet: &Subnet) -> Boot
+    ensures { result ≡ first_boot (reserved_boots message.now subnet.now) }
+{
+    match reservation_of(message, subnet) {
+        Some(reservation) => first_of(reservation.boots.as_slice()),
+        None => Boot::none(),
+    }
+}
+
+// Returns what several give, one after another.
+#[tactic(auto, using(crate::proofs::Boots::one_more, crate::proofs::Boots::boot_last))]
+fn first_of(boots: &[Boot]) -> Boot
+    ensures { result ≡ first_boot boots.now }
+{
+    let mut found = Boot::none();
+    for boot in boots {
+        found = found.or(*boot);
+    }
+    found
+}
+
+// Returns what the classes whose names are held give, one after another.
+fn class_boot(classes: &Classes, names: &Held) -> Boot
+    ensures { result ≡ first_boot (class_boots classes.now names.now) }
+{
+    let mut found = Boot::none();
+    for i in 0..classes.len() {
+        match classes.def_at(i) {
+            Some(class) => found = found.or(boot_of_class(class, names)),
+            None => unreachable!(),
+        }
+    }
+    found
+}
+
+// Returns what a class gives if its name is held.
+#[tactic(auto, using(crate::proofs::Boots::one_boot, crate::proofs::Boots::no_class_boot, crate::proofs::Boots::empty_boot))]
+fn boot_of_class(class: &ClassDef, names: &Held) -> Boot
+    ensures { result ≡ first_boot (class_boots (class.now ∷ []) names.now) }
+{
+    if !class.boot.is_none() && names.contains(class.name.as_slice()) {
+        class.boot
+    } else {
+        Boot::none()
+    }
+}
