@@ -6,7 +6,8 @@
 For each event it prints the line that `kdhcp replay` must print. With `--leases M` it then prints the table of leases at the
 time M. The table is a plain list, and each lookup goes through all of it. The rules are implemented here a second time, from
 RFC 2131, 2132, 3046, 3396, 3527, 6842 and the project's own rules. The program was written separately from the server, in another
-language, and uses none of the server's code.
+language, and uses none of the server's code. With networks, even if there are none (`shared-networks`), the rules are those of a
+configuration of Kea's, which also gives values to the fields siaddr, sname and file.
 
 It supports the class tests that answers.py supports: strings, hexadecimal, option, relay4, pkt4.mac, substring without
 negative numbers, member, ==, not, and, or. It does not support classes with token files.
@@ -35,6 +36,8 @@ DISCOVER, REQUEST, DECLINE, RELEASE = 1, 3, 4, 7
 END_OF_TIME = 2**40
 END_OF_NUMBERS = 2**64
 LONGEST_LINE = 131072
+# The keys of a configuration of Kea's for the fields of a reply by which its client boots, each with the size of its field.
+BOOT = {"next-server": 4, "server-hostname": 64, "boot-file-name": 128}
 
 
 class Row(NamedTuple):
@@ -247,14 +250,20 @@ def changed_row(asked, address_of_row, client, state, seconds):
 # ---- which addresses a client may have
 
 
-def reserved(asked):
-    """The address of the subnet's first reservation for this client, or None."""
+def reservation(asked):
+    """The subnet's first reservation for this client, or None."""
     for entry in asked.subnet.get("reservations", []):
         by_hardware = "hw-address" in entry and hexadecimal(entry["hw-address"]) == mac(asked.datagram)
         by_identifier = "client-id" in entry and hexadecimal(entry["client-id"]) == asked.found.get(61)
         if by_hardware or by_identifier:
-            return number(address(entry["ip-address"]))
+            return entry
     return None
+
+
+def reserved(asked):
+    """The address of the subnet's first reservation for this client, or None."""
+    entry = reservation(asked)
+    return None if entry is None else number(address(entry["ip-address"]))
 
 
 def reserved_in(subnet):
@@ -439,13 +448,50 @@ def given_by(home, at):
     return {"subnet": part["subnet"], "pools": home["pools"], "option-data": options}
 
 
+def place_of(asked, plan):
+    """The address that a reply assigns, or the one that the sender of an INFORM has."""
+    return ciaddr(asked) if plan.kind == "INFORMED" else plan.yiaddr
+
+
 def configured(asked, plan):
     """The configured options for the client, encoded, in the order of their codes."""
     if plan.kind == "NAK":
         return []
-    at = ciaddr(asked) if plan.kind == "INFORMED" else plan.yiaddr
+    at = place_of(asked, plan)
     values = given(asked.root, given_by(asked.subnet, at), asked.held, at)
     return [written(code, values[code]) for code in sorted(values) if 55 not in asked.found or code in asked.found[55]]
+
+
+def boot_value(holder, key):
+    """What a part of the configuration gives to a boot field, or None: an empty text gives nothing."""
+    text = holder.get(key, "")
+    return None if text == "" else address(text) if key == "next-server" else text.encode().ljust(BOOT[key], b"\0")
+
+
+def boots_of_client(asked, key):
+    """What the client's reservation and its classes in the order of the file give to a boot field. 0.0.0.0 gives nothing."""
+    entry = reservation(asked)
+    holders = [] if entry is None else [entry]
+    holders += [each for each in asked.root.get("client-classes", []) if each["name"].encode() in asked.held]
+    values = [boot_value(each, key) for each in holders]
+    return [None if key == "next-server" and value == bytes(4) else value for value in values]
+
+
+def boots_of_place(asked, key, at):
+    """What the subnet that has an address, its network and the whole server give to a boot field. 0.0.0.0 hides those behind it.
+
+    For an address in no subnet of a network, as an INFORM may have, they give nothing."""
+    home = asked.subnet
+    part = next((each for each in parts_of(home) if "parts" not in home or contains(each, at)), None)
+    holders = [] if part is None else [part, home.get("network", {}), asked.root]
+    return [boot_value(each, key) for each in holders]
+
+
+def boot_field(asked, plan, key):
+    """A field of a reply by which its client boots: the first value that is given, or else zeros."""
+    is_given = plan.kind != "NAK"
+    values = boots_of_client(asked, key) + boots_of_place(asked, key, place_of(asked, plan)) if is_given else []
+    return next((value for value in values if value is not None), bytes(BOOT[key]))
 
 
 def options_of(asked, plan):
@@ -475,8 +521,9 @@ def header_of(asked, plan):
         flags |= 0x8000
     kept = datagram[12:16] if plan.kind in ("ACK", "INFORMED") else bytes(4)
     start = b"\x02" + datagram[1:3] + b"\x00" + datagram[4:8] + bytes(2) + flags.to_bytes(2, "big")
-    addresses = kept + plan.yiaddr.to_bytes(4, "big") + bytes(4) + datagram[24:28]
-    return start + addresses + datagram[28:44] + bytes(64) + bytes(128) + COOKIE
+    siaddr, sname, file = (boot_field(asked, plan, key) for key in BOOT)
+    addresses = kept + plan.yiaddr.to_bytes(4, "big") + siaddr + datagram[24:28]
+    return start + addresses + datagram[28:44] + sname + file + COOKIE
 
 
 def destination(asked, plan):

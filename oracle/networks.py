@@ -5,8 +5,9 @@
 
 The configurations are those of histories.py, with most of their subnets in shared networks: of one to three subnets, with
 options, relays and a class of the network or of its subnets, and pools for a class. Clients come through these relays too.
-Some relays select a link, and some clients renew without the relay that says their class. Some servers are authoritative, and
-some ignore client identifiers.
+The whole server, networks, subnets, classes and reservations give values to boot fields, some of them empty. Some relays
+select a link, and some clients renew without the relay that says their class. Some servers are authoritative, and some ignore
+client identifiers.
 """
 import json
 
@@ -14,6 +15,12 @@ import histories
 import judge
 
 RELAYS = ["10.0.0.1", "10.0.0.2", "192.0.2.9", "198.51.100.251"]
+# Values of the keys for boot fields: those that give nothing or hide others, short ones, and the longest.
+BOOTS = {
+    "next-server": ["", "0.0.0.0", "0.0.0.0", "10.9.8.7", "192.0.2.200", "255.255.255.254"],
+    "server-hostname": ["", "", "a", "boot.example", "b\u00fcro", "h" * 62 + "E"],
+    "boot-file-name": ["", "", "a", 'pxe/grub \\ "0".efi', "\u20ac/x", "f" * 126 + "E"],
+}
 
 
 def some_relays(chance):
@@ -41,6 +48,21 @@ def network(chance, number, subnets, names):
     return {**made, "subnet4": [with_classes(chance, each, names) for each in subnets]}
 
 
+def boot_keys(chance, often):
+    """Values for some of the boot fields, or none."""
+    return {key: chance.choice(values) for key, values in BOOTS.items() if chance.random() < often}
+
+
+def with_boot_keys(chance, root):
+    """The configuration with boot fields of the whole server, and of its networks, subnets, classes and reservations."""
+    often = chance.choice([0, 0.2, 0.4, 0.7])
+    subnets = [subnet for subnet, _ in judge.subnets_of(root)]
+    hosts = [entry for subnet in subnets for entry in subnet.get("reservations", [])]
+    for holder in [root, *root["shared-networks"], *subnets, *root["client-classes"], *hosts]:
+        holder.update(boot_keys(chance, often))
+    return root
+
+
 def configuration(chance):
     """A configuration of histories.py in Kea's form, apart from the keys of kea_words."""
     root = histories.configuration(chance)
@@ -62,7 +84,7 @@ def configuration(chance):
             root["shared-networks"].append(network(chance, len(root["shared-networks"]), taken, names))
         else:
             root["subnet4"] += taken
-    return root
+    return with_boot_keys(chance, root)
 
 
 def history(chance):
