@@ -7,9 +7,9 @@
 //! offered is that of `specs/Choice.antt`; `specs/Laws.antt` says what is true of these rules for
 //! every table. The configured options of a reply are those that the configuration gives to the
 //! client (`specs/Given.antt`), as are its boot fields (`specs/Booting.antt`); its header and its
-//! destination are those of `specs/ReplyOf.antt` and `specs/Destination.antt`. All this holds for every table, whether or not it knows the
-//! addresses that the configuration reserves (`Ground`); the table of `Leases`
-//! (`specs/Leases.antt`) knows them and skips them.
+//! destination are those of `specs/ReplyOf.antt` and `specs/Destination.antt`. All this holds for
+//! every table, whether or not it knows the addresses that the configuration reserves (`Ground`);
+//! the table of `Leases` (`specs/Leases.antt`) knows them and skips them.
 #![tactic(auto)]
 
 mod ages;
