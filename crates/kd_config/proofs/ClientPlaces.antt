@@ -1,34 +1,45 @@
 -- The places of the first reservations for clients, and the first reservation for a client that has
 -- a hardware address and may have an identifier.
-use Rattle.std.proofs.Common.{◌≡◌, ℕ, suc, ◌+◌, ◌-◌, ◌≤◌, Bool, true, false, ◌||◌, List, [], ◌∷◌, ◌++◌, Option, None, Some, refl, sym, ap, ◌∙◌, if◌then◌else◌, length, min, slice_get, arith}
-use Rattle.std.specs.List.{find, position_from}
+use Rattle.std.proofs.Common.{◌≡◌, ◌≢◌, ◌⊎◌, inl, inr, nat_eq, ℕ, suc, ◌+◌, ◌-◌, ◌≤◌, Bool, true, false, ◌||◌, List, [], ◌∷◌, ◌++◌, Option, None, Some, refl, sym, ap, ◌∙◌, if◌then◌else◌, is_some, option_copied, Bor, length, min, slice_get, arith}
+use Rattle.std.specs.List.{find, list_any, position_from}
 use Rattle.std.specs.Map.{lookup}
 use Rattle.std.specs.Option.{option_or}
-use Rattle.std.specs.Str.{bytes_eq}
+use Rattle.std.proofs.lemmas.Bool.Decides.{eqb_tells}
 use Rattle.std.proofs.lemmas.Option.{none-some, same_Some}
 use Rattle.indexmap.specs.IndexMap.{insert_entry}
 use Rattle.kd_config.specs.Reservation.{ArePlaces, earlier, found_if, identified_by, is_client, is_client_if}
+use Rattle.kd_config.specs.declared.reservation.IdentityKind.{IdentityKind}
+use Rattle.kd_config.specs.declared.reservation.IdentityKind.TheVariants as kinds
 use Rattle.kd_config.specs.declared.reservation.Reservation.{Reservation}
 
+-- numbers are equal both ways
+pub flip : (a b : ℕ) → nat_eq a b ≡ nat_eq b a
+flip a b = cases (eqb_tells a b) (eqb_tells b a) where
+  cases : ((nat_eq a b ≡ true) × (a ≡ b)) ⊎ ((nat_eq a b ≡ false) × (a ≢ b)) → ((nat_eq b a ≡ true) × (b ≡ a)) ⊎ ((nat_eq b a ≡ false) × (b ≢ a)) → nat_eq a b ≡ nat_eq b a
+  cases (inl t) (inl u) = t.0 ∙ sym u.0
+  cases (inl t) (inr f) = absurd (f.1 (sym t.1))
+  cases (inr f) (inl t) = absurd (f.1 (sym t.1))
+  cases (inr f) (inr g) = f.0 ∙ sym g.0
+
 -- the value of a key that was not there
-pub inserted : {K : Type 0} (items : K → List ℕ) (es : List (K × ℕ)) (key : K) (v : ℕ) (other : List ℕ) → lookup (λ k. bytes_eq (items key) (items k)) es ≡ None
-    → lookup (λ k. bytes_eq other (items k)) (insert_entry (λ a b. bytes_eq (items a) (items b)) es key v)
-    ≡ option_or (lookup (λ k. bytes_eq other (items k)) es) (if bytes_eq other (items key) then Some v else None)
-inserted items [] key v other absent = refl
-inserted items (e ∷ es) key v other absent = cases (bytes_eq (items key) (items e.0)) refl (bytes_eq other (items e.0)) refl (inserted items es key v other) where
-  cases : (t : Bool) → bytes_eq (items key) (items e.0) ≡ t → (u : Bool) → bytes_eq other (items e.0) ≡ u
-      → (lookup (λ k. bytes_eq (items key) (items k)) es ≡ None
-      → lookup (λ k. bytes_eq other (items k)) (insert_entry (λ a b. bytes_eq (items a) (items b)) es key v) ≡ option_or (lookup (λ k. bytes_eq other (items k)) es) (if bytes_eq other (items key) then Some v else None))
-      → lookup (λ k. bytes_eq other (items k)) (insert_entry (λ a b. bytes_eq (items a) (items b)) (e ∷ es) key v)
-      ≡ option_or (lookup (λ k. bytes_eq other (items k)) (e ∷ es)) (if bytes_eq other (items key) then Some v else None)
+pub inserted : {K B : Type 0} (eq : B → B → Bool) (items : K → B) (es : List (K × ℕ)) (key : K) (v : ℕ) (other : B) → lookup (λ k. eq (items key) (items k)) es ≡ None
+    → lookup (λ k. eq other (items k)) (insert_entry (λ a b. eq (items a) (items b)) es key v)
+    ≡ option_or (lookup (λ k. eq other (items k)) es) (if eq other (items key) then Some v else None)
+inserted eq items [] key v other absent = refl
+inserted eq items (e ∷ es) key v other absent = cases (eq (items key) (items e.0)) refl (eq other (items e.0)) refl (inserted eq items es key v other) where
+  cases : (t : Bool) → eq (items key) (items e.0) ≡ t → (u : Bool) → eq other (items e.0) ≡ u
+      → (lookup (λ k. eq (items key) (items k)) es ≡ None
+      → lookup (λ k. eq other (items k)) (insert_entry (λ a b. eq (items a) (items b)) es key v) ≡ option_or (lookup (λ k. eq other (items k)) es) (if eq other (items key) then Some v else None))
+      → lookup (λ k. eq other (items k)) (insert_entry (λ a b. eq (items a) (items b)) (e ∷ es) key v)
+      ≡ option_or (lookup (λ k. eq other (items k)) (e ∷ es)) (if eq other (items key) then Some v else None)
   cases true t u is more = absurd (none-some e.1 (sym absent ∙ found)) where
-    found : lookup (λ k. bytes_eq (items key) (items k)) (e ∷ es) ≡ Some e.1
+    found : lookup (λ k. eq (items key) (items k)) (e ∷ es) ≡ Some e.1
     found = rw t refl
   cases false t true is more = rw t (rw is refl)
   cases false t false is more = rw t (rw is (more rest)) where
-    rest : lookup (λ k. bytes_eq (items key) (items k)) es ≡ None
+    rest : lookup (λ k. eq (items key) (items k)) es ≡ None
     rest = sym behind ∙ absent where
-      behind : lookup (λ k. bytes_eq (items key) (items k)) (e ∷ es) ≡ lookup (λ k. bytes_eq (items key) (items k)) es
+      behind : lookup (λ k. eq (items key) (items k)) (e ∷ es) ≡ lookup (λ k. eq (items key) (items k)) es
       behind = rw t refl
 
 -- the first place, with an element more
@@ -98,24 +109,47 @@ first_of_both f g i (x ∷ xs) = by (f x) (g x) (first_of_both f g (i + 1) xs) w
   by false false more =
       more ∙ sym (at_later x xs i (earlier p q) (earlier_from (i + 1) p q (from_start f (i + 1) xs) (from_start g (i + 1) xs)))
 
+-- the first that passes a test is at its first place
+pub first_at : {X : Type 0} (f : X → Bool) (i : ℕ) (xs : List X) → find f xs ≡ at_place xs i (position_from f i xs)
+first_at f i [] = refl
+first_at f i (x ∷ xs) = by (f x) (first_at f (i + 1) xs) where
+  by : (t : Bool) → find f xs ≡ at_place xs (i + 1) (position_from f (i + 1) xs)
+      → (if t then Some x else find f xs) ≡ at_place (x ∷ xs) i (if t then Some i else position_from f (i + 1) xs)
+  by true more = sym (at_here x xs i)
+  by false more = more ∙ sym (at_later x xs i (position_from f (i + 1) xs) (from_start f (i + 1) xs))
+
+-- there is a first place exactly where any passes
+pub any_at : {X : Type 0} (f : X → Bool) (i : ℕ) (xs : List X) → is_some (position_from f i xs) ≡ list_any f xs
+any_at f i [] = refl
+any_at f i (x ∷ xs) = by (f x) (any_at f (i + 1) xs) where
+  by : (t : Bool) → is_some (position_from f (i + 1) xs) ≡ list_any f xs
+      → is_some (if t then Some i else position_from f (i + 1) xs) ≡ (t || list_any f xs)
+  by true more = refl
+  by false more = more
+
+-- there is a reference exactly where there is what it refers to
+pub copied_some : {X : Type 0} (found : Option (Bor X)) → is_some (option_copied found) ≡ is_some found
+copied_some None = refl
+copied_some (Some x) = refl
+
 none_passes : {X : Type 0} (i : ℕ) (xs : List X) → position_from (λ x. false) i xs ≡ None
 none_passes i [] = refl
 none_passes i (x ∷ xs) = none_passes (i + 1) xs
 
 -- what is found for bytes, if there are any
-pub found_places : (hardware : Bool) (found : List ℕ → Option ℕ) (list : List Reservation) → ArePlaces hardware found list → (id : Option (List ℕ))
-    → found_if found id ≡ position_from (λ r. is_client_if hardware id r.identity) 0 list
-found_places hardware found list are None = sym (none_passes 0 list)
-found_places hardware found list are (Some bytes) = are bytes
+pub found_places : (kind : IdentityKind) (found : List ℕ → Option ℕ) (list : List Reservation) → ArePlaces kind found list → (id : Option (List ℕ))
+    → found_if found id ≡ position_from (λ r. is_client_if kind id r.identity) 0 list
+found_places kind found list are None = sym (none_passes 0 list)
+found_places kind found list are (Some bytes) = are bytes
 
 pub or-none : (x : Option ℕ) → option_or x None ≡ x
 or-none None = refl
 or-none (Some x) = refl
 
 -- the first reservation for a client is at the earlier of the places that are found for its bytes
-pub first_of_client : (list : List Reservation) (hardware identifiers : List ℕ → Option ℕ) → ArePlaces true hardware list → ArePlaces false identifiers list
+pub first_of_client : (list : List Reservation) (hardware identifiers : List ℕ → Option ℕ) → ArePlaces kinds.Hardware hardware list → ArePlaces kinds.ClientId identifiers list
     → (mac : List ℕ) (id : Option (List ℕ)) → find (λ r. identified_by mac id r.identity) list ≡ at_place list 0 (earlier (hardware mac) (found_if identifiers id))
 first_of_client list hardware identifiers left right mac id =
-    first_of_both (λ r. is_client true mac r.identity) (λ r. is_client_if false id r.identity) 0 list
-    ∙ ap (λ p. at_place list 0 (earlier p (position_from (λ r. is_client_if false id r.identity) 0 list))) (sym (left mac))
-    ∙ ap (λ q. at_place list 0 (earlier (hardware mac) q)) (sym (found_places false identifiers list right id))
+    first_of_both (λ r. is_client kinds.Hardware mac r.identity) (λ r. is_client_if kinds.ClientId id r.identity) 0 list
+    ∙ ap (λ p. at_place list 0 (earlier p (position_from (λ r. is_client_if kinds.ClientId id r.identity) 0 list))) (sym (left mac))
+    ∙ ap (λ q. at_place list 0 (earlier (hardware mac) q)) (sym (found_places kinds.ClientId identifiers list right id))

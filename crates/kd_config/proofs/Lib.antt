@@ -4,6 +4,5 @@ pub mod NoClasses
 pub mod SoundBuiltin
 pub mod PoolPlaces
 pub mod ReservationPlaces
-pub mod ReservedAddresses
 pub mod AcceptedTests
 pub mod Unbooted

@@ -4,16 +4,17 @@ use Rattle.std.proofs.lemmas.Bool.{eq-eqb, false≢true, not-true}
 use Rattle.std.proofs.lemmas.List.Folds.{list_any-append}
 use Rattle.std.proofs.lemmas.Slice.Eq.{bytes_eq-Decides}
 use Rattle.std.specs.List.{list_all, list_any}
-use Rattle.std.specs.Prelude.{Some, nat_eq, slice_get, ◌||◌}
+use Rattle.std.specs.Prelude.{Option, Some, nat_eq, slice_get}
 use Rattle.kd_config.proofs.Tests.{both_passed, some_is}
 use Rattle.kd_config.proofs.Tests.{or_false}
 use Rattle.kd_config.specs.Address.{has_address}
 use Rattle.kd_config.specs.Apart.{lie_apart}
 use Rattle.kd_config.specs.Laws.{AddressHasOneReservation, ClientHasOneReservation}
-use Rattle.kd_config.specs.Rules.{all_obey, pool_ranges, is_new, lies_within, may_all_reserve, may_reserve, may_stand, obeys, reserved, same_identity}
+use Rattle.kd_config.specs.Reservation.{listed}
+use Rattle.kd_config.specs.Rules.{all_obey, pool_ranges, is_new, lies_within, may_all_reserve, may_have, may_reserve, may_stand, obeys, reserved, same_identity}
 use Rattle.kd_config.specs.declared.prefix.Prefix.{Prefix}
 use Rattle.kd_config.specs.declared.reservation.Identity.{Identity}
-use Rattle.kd_config.specs.declared.reservation.Identity.TheVariants.{Hardware, ClientId}
+use Rattle.kd_config.specs.declared.reservation.Identity.TheVariants as clients
 use Rattle.kd_config.specs.declared.reservation.Reservation.{Reservation}
 use Rattle.kd_config.specs.declared.subnet.Subnet.{Subnet}
 
@@ -28,21 +29,27 @@ IsNotAmong identity clients = list_any (same_identity identity) clients ≡ fals
 -- what holds of the first reservation
 record First (prefix : Prefix) (earlier : List ℕ) (clients : List Identity) (r : Reservation)
     (rs : List Reservation) : Type 0 where
-  address : IsNotOf r.address earlier
+  address : (a : ℕ) → r.address ≡ Some a → IsNotOf a earlier
   client : IsNotAmong r.identity clients
-  later : may_all_reserve prefix (earlier ++ r.address ∷ []) (clients ++ r.identity ∷ []) rs ≡ true
+  later : may_all_reserve prefix (earlier ++ listed r.address) (clients ++ r.identity ∷ []) rs ≡ true
+
+-- an address that may be reserved is not among the earlier ones
+new_if : (prefix : Prefix) (earlier : List ℕ) (a : ℕ) → may_have prefix earlier (Some a) ≡ true
+    → IsNotOf a earlier
+new_if prefix earlier a h =
+    not-true (list_any (nat_eq a) earlier)
+    (both_passed (has_address prefix a) (not (list_any (nat_eq a) earlier)) h).1
 
 first_of_all : (prefix : Prefix) (earlier : List ℕ) (clients : List Identity) (r : Reservation)
     (rs : List Reservation)
     → may_all_reserve prefix earlier clients (r ∷ rs) ≡ true → First prefix earlier clients r rs
 first_of_all prefix earlier clients r rs h =
-    let more = may_all_reserve prefix (earlier ++ r.address ∷ []) (clients ++ r.identity ∷ []) rs in
+    let more = may_all_reserve prefix (earlier ++ listed r.address) (clients ++ r.identity ∷ []) rs in
     let both = both_passed (may_reserve prefix earlier r) (is_new clients r.identity && more) h in
     let rest = both_passed (is_new clients r.identity) more both.1 in
-    let this = both_passed (has_address prefix r.address)
-    (not (list_any (nat_eq r.address) earlier)) both.0 in
     record {
-      address = not-true (list_any (nat_eq r.address) earlier) this.1;
+      address = λ a is. new_if prefix earlier a
+          (subst (λ (o : Option ℕ). may_have prefix earlier o ≡ true) is both.0);
       client = not-true (list_any (same_identity r.identity) clients) rest.0;
       later = rest.1;
     }
@@ -60,7 +67,7 @@ not_among_both i xs ys e =
 
 -- a reservation has an address and a client that are not among the earlier ones
 record IsNewcomer (earlier : List ℕ) (clients : List Identity) (r : Reservation) : Type 0 where
-  address : IsNotOf r.address earlier
+  address : (a : ℕ) → r.address ≡ Some a → IsNotOf a earlier
   client : IsNotAmong r.identity clients
 
 newcomer : (prefix : Prefix) (earlier : List ℕ) (clients : List Identity) (rs : List Reservation)
@@ -74,23 +81,25 @@ newcomer prefix earlier clients (x ∷ rs) zero r h e =
     (record { address = first.address; client = first.client })
 newcomer prefix earlier clients (x ∷ rs) (suc j) r h e =
     let first = first_of_all prefix earlier clients x rs h in
-    let more = newcomer prefix (earlier ++ x.address ∷ [])
+    let more = newcomer prefix (earlier ++ listed x.address)
     (clients ++ x.identity ∷ []) rs j r first.later e in
     record {
-      address = (not_of_both r.address earlier (x.address ∷ []) more.address).0;
+      address = λ a is. (not_of_both a earlier (listed x.address) (more.address a is)).0;
       client = (not_among_both r.identity clients (x.identity ∷ []) more.client).0;
     }
 
 -- a client is the same as itself
 same_client : (i : Identity) → same_identity i i ≡ true
-same_client (Hardware bytes) = (bytes_eq-Decides bytes bytes).1 refl
-same_client (ClientId bytes) = (bytes_eq-Decides bytes bytes).1 refl
+same_client (clients.Hardware bytes) = (bytes_eq-Decides bytes bytes).1 refl
+same_client (clients.Duid bytes) = (bytes_eq-Decides bytes bytes).1 refl
+same_client (clients.Circuit bytes) = (bytes_eq-Decides bytes bytes).1 refl
+same_client (clients.ClientId bytes) = (bytes_eq-Decides bytes bytes).1 refl
 
--- an address is equal to another, and not the other: a contradiction
-other_address : (a b : ℕ) → a ≡ b → IsNotOf b (a ∷ []) → ⊥
-other_address a b same e =
-    let this : nat_eq b a ≡ false = (or_false (nat_eq b a) false e).0 in
-    false≢true (sym (subst (λ (n : ℕ). nat_eq b n ≡ false) same this) ∙ eq-eqb b b refl)
+-- an address is there, and not among those that are: a contradiction
+other_address : (a : ℕ) (o : Option ℕ) → o ≡ Some a → IsNotOf a (listed o) → ⊥
+other_address a o is none =
+    let this : IsNotOf a (a ∷ []) = subst (λ (p : Option ℕ). IsNotOf a (listed p)) is none in
+    false≢true (sym (or_false (nat_eq a a) false this).0 ∙ eq-eqb a a refl)
 
 other_client : (a b : Identity) → a ≡ b → IsNotAmong b (a ∷ []) → ⊥
 other_client a b same e =
@@ -99,7 +108,7 @@ other_client a b same e =
 
 -- the first reservation and a later one share neither the address nor the client
 record AreOthers (x r : Reservation) : Type 0 where
-  address : x.address ≡ r.address → ⊥
+  address : (a : ℕ) → x.address ≡ Some a → r.address ≡ Some a → ⊥
   client : x.identity ≡ r.identity → ⊥
 
 first_and_later : (prefix : Prefix) (earlier : List ℕ) (clients : List Identity) (x : Reservation)
@@ -108,18 +117,18 @@ first_and_later : (prefix : Prefix) (earlier : List ℕ) (clients : List Identit
     → slice_get rs l ≡ Some q → AreOthers p q
 first_and_later prefix earlier clients x rs l p q h e f =
     let first = first_of_all prefix earlier clients x rs h in
-    let more = newcomer prefix (earlier ++ x.address ∷ [])
+    let more = newcomer prefix (earlier ++ listed x.address)
     (clients ++ x.identity ∷ []) rs l q first.later f in
     subst (λ (y : Reservation). AreOthers y q) (some_is x p e) (record {
-      address = λ same. other_address x.address q.address same
-          (not_of_both q.address earlier (x.address ∷ []) more.address).1;
+      address = λ a this that. other_address a x.address this
+          (not_of_both a earlier (listed x.address) (more.address a that)).1;
       client = λ same. other_client x.identity q.identity same
           (not_among_both q.identity clients (x.identity ∷ []) more.client).1;
     })
 
 -- two reservations of a subnet
 record IsOnePlace (j l : ℕ) (p q : Reservation) : Type 0 where
-  address : p.address ≡ q.address → j ≡ l
+  address : (a : ℕ) → p.address ≡ Some a → q.address ≡ Some a → j ≡ l
   client : p.identity ≡ q.identity → j ≡ l
 
 within : (prefix : Prefix) (earlier : List ℕ) (clients : List Identity) (rs : List Reservation)
@@ -128,27 +137,27 @@ within : (prefix : Prefix) (earlier : List ℕ) (clients : List Identity) (rs : 
     → slice_get rs l ≡ Some q → IsOnePlace j l p q
 within prefix earlier clients [] j l p q h e f = absurd (cc)
 within prefix earlier clients (x ∷ rs) zero zero p q h e f =
-    record { address = λ same. refl; client = λ same. refl }
+    record { address = λ a this that. refl; client = λ same. refl }
 within prefix earlier clients (x ∷ rs) zero (suc l) p q h e f =
     let others = first_and_later prefix earlier clients x rs l p q h e f in
     record {
-      address = λ same. absurd (others.address same);
+      address = λ a this that. absurd (others.address a this that);
       client =
           λ same. absurd (others.client same);
     }
 within prefix earlier clients (x ∷ rs) (suc j) zero p q h e f =
     let others = first_and_later prefix earlier clients x rs j q p h f e in
     record {
-      address = λ same. absurd (others.address (sym same));
+      address = λ a this that. absurd (others.address a that this);
       client =
           λ same. absurd (others.client (sym same));
     }
 within prefix earlier clients (x ∷ rs) (suc j) (suc l) p q h e f =
     let first = first_of_all prefix earlier clients x rs h in
-    let one = within prefix (earlier ++ x.address ∷ [])
+    let one = within prefix (earlier ++ listed x.address)
     (clients ++ x.identity ∷ []) rs j l p q first.later e f in
     record {
-      address = λ same. ap suc (one.address same);
+      address = λ a this that. ap suc (one.address a this that);
       client =
           λ same. ap suc (one.client same);
     }
@@ -172,43 +181,42 @@ first_subnet earlier s subnets h =
 
 -- a reserved address is not among the earlier ones
 new_address : (earlier : List ℕ) (subnets : List Subnet) (i j : ℕ) (s : Subnet) (r : Reservation)
-    → all_obey earlier subnets ≡ true
-    → slice_get subnets i ≡ Some s → slice_get s.reservations j ≡ Some r → IsNotOf r.address earlier
-new_address earlier [] i j s r h e f = absurd (cc)
-new_address earlier (x ∷ subnets) zero j s r h e f =
+    (a : ℕ) → all_obey earlier subnets ≡ true
+    → slice_get subnets i ≡ Some s → slice_get s.reservations j ≡ Some r → r.address ≡ Some a
+    → IsNotOf a earlier
+new_address earlier [] i j s r a h e f is = absurd (cc)
+new_address earlier (x ∷ subnets) zero j s r a h e f is =
     let rules = first_subnet earlier x subnets h in
     let here : slice_get x.reservations j ≡ Some r =
     subst (λ (y : Subnet). slice_get y.reservations j ≡ Some r) (sym (some_is x s e)) f in
-    (newcomer x.prefix earlier [] x.reservations j r rules.0 here).address
-new_address earlier (x ∷ subnets) (suc i) j s r h e f =
+    (newcomer x.prefix earlier [] x.reservations j r rules.0 here).address a is
+new_address earlier (x ∷ subnets) (suc i) j s r a h e f is =
     let rules = first_subnet earlier x subnets h in
-    (not_of_both r.address earlier (reserved x.reservations)
-    (new_address (earlier ++ reserved x.reservations) subnets i j s r rules.1 e f)).0
+    (not_of_both a earlier (reserved x.reservations)
+    (new_address (earlier ++ reserved x.reservations) subnets i j s r a rules.1 e f is)).0
 
 -- an address that is not reserved is not that of any reservation
 not_this : (a : ℕ) (rs : List Reservation) (j : ℕ) (r : Reservation) → IsNotOf a (reserved rs)
-    → slice_get rs j ≡ Some r → r.address ≡ a → ⊥
+    → slice_get rs j ≡ Some r → r.address ≡ Some a → ⊥
 not_this a [] j r none e same = absurd (cc)
 not_this a (x ∷ rs) zero r none e same =
-    other_address x.address a (ap (λ (y : Reservation). y.address) (some_is x r e) ∙ same)
-    (ap (λ (b : Bool). b || false)
-    (or_false (nat_eq a x.address) (list_any (nat_eq a) (reserved rs)) none).0)
+    other_address a x.address (ap (λ (y : Reservation). y.address) (some_is x r e) ∙ same)
+    (not_of_both a (listed x.address) (reserved rs) none).0
 not_this a (x ∷ rs) (suc j) r none e same =
-    not_this a rs j r (or_false (nat_eq a x.address) (list_any (nat_eq a) (reserved rs)) none).1 e
-    same
+    not_this a rs j r (not_of_both a (listed x.address) (reserved rs) none).1 e same
 
 -- a reservation of a subnet, and one of a later subnet
 across : (earlier : List ℕ) (x : Subnet) (subnets : List Subnet) (j k l : ℕ) (s t : Subnet)
-    (p q : Reservation)
+    (p q : Reservation) (a : ℕ)
     → all_obey earlier (x ∷ subnets) ≡ true → Some x ≡ Some s → slice_get s.reservations j ≡ Some p
-    → slice_get subnets k ≡ Some t → slice_get t.reservations l ≡ Some q → p.address ≡ q.address → ⊥
-across earlier x subnets j k l s t p q h e f g u same =
+    → slice_get subnets k ≡ Some t → slice_get t.reservations l ≡ Some q → p.address ≡ Some a
+    → q.address ≡ Some a → ⊥
+across earlier x subnets j k l s t p q a h e f g u this that =
     let rules = first_subnet earlier x subnets h in
-    let new = new_address (earlier ++ reserved x.reservations) subnets k l t q rules.1 g u in
+    let new = new_address (earlier ++ reserved x.reservations) subnets k l t q a rules.1 g u that in
     let here : slice_get x.reservations j ≡ Some p =
     subst (λ (y : Subnet). slice_get y.reservations j ≡ Some p) (sym (some_is x s e)) f in
-    not_this q.address x.reservations j p
-    (not_of_both q.address earlier (reserved x.reservations) new).1 here same
+    not_this a x.reservations j p (not_of_both a earlier (reserved x.reservations) new).1 here this
 
 -- two reservations of the first subnet
 within_first : (earlier : List ℕ) (x : Subnet) (subnets : List Subnet) (j l : ℕ) (s t : Subnet)
@@ -224,21 +232,22 @@ within_first earlier x subnets j l s t p q h e f g u =
 
 -- two reservations of one address
 one_place : (earlier : List ℕ) (subnets : List Subnet) (i j k l : ℕ) (s t : Subnet)
-    (p q : Reservation) → all_obey earlier subnets ≡ true
+    (p q : Reservation) (a : ℕ) → all_obey earlier subnets ≡ true
     → slice_get subnets i ≡ Some s → slice_get s.reservations j ≡ Some p
     → slice_get subnets k ≡ Some t
-    → slice_get t.reservations l ≡ Some q → p.address ≡ q.address → (i ≡ k) × (j ≡ l)
-one_place earlier [] i j k l s t p q h e f g u same = absurd (cc)
-one_place earlier (x ∷ subnets) zero j zero l s t p q h e f g u same =
-    (refl, (within_first earlier x subnets j l s t p q h e f g u).address same)
-one_place earlier (x ∷ subnets) zero j (suc k) l s t p q h e f g u same =
-    absurd (across earlier x subnets j k l s t p q h e f g u same)
-one_place earlier (x ∷ subnets) (suc i) j zero l s t p q h e f g u same =
-    absurd (across earlier x subnets l i j t s q p h g u e f (sym same))
-one_place earlier (x ∷ subnets) (suc i) j (suc k) l s t p q h e f g u same =
+    → slice_get t.reservations l ≡ Some q → p.address ≡ Some a → q.address ≡ Some a
+    → (i ≡ k) × (j ≡ l)
+one_place earlier [] i j k l s t p q a h e f g u this that = absurd (cc)
+one_place earlier (x ∷ subnets) zero j zero l s t p q a h e f g u this that =
+    (refl, (within_first earlier x subnets j l s t p q h e f g u).address a this that)
+one_place earlier (x ∷ subnets) zero j (suc k) l s t p q a h e f g u this that =
+    absurd (across earlier x subnets j k l s t p q a h e f g u this that)
+one_place earlier (x ∷ subnets) (suc i) j zero l s t p q a h e f g u this that =
+    absurd (across earlier x subnets l i j t s q p a h g u e f that this)
+one_place earlier (x ∷ subnets) (suc i) j (suc k) l s t p q a h e f g u this that =
     let rules = first_subnet earlier x subnets h in
-    let one = one_place (earlier ++ reserved x.reservations) subnets i j k l s t p q rules.1 e f g u
-    same in
+    let one = one_place (earlier ++ reserved x.reservations) subnets i j k l s t p q a rules.1 e f g u
+    this that in
     (ap suc one.0, one.1)
 
 -- two reservations of one subnet for one client
@@ -259,10 +268,10 @@ unfolding may_stand
 obey_from subnets h = (both_passed (lie_apart (pool_ranges subnets)) (all_obey [] subnets) h).1
 
 pub one_of_address : AddressHasOneReservation
-one_of_address c i j k l p q sound this that same =
-    one_place [] c.subnets i j k l this.subnet that.subnet p q
+one_of_address c a i j k l p q sound this that its same =
+    one_place [] c.subnets i j k l this.subnet that.subnet p q a
     (obey_from c.subnets sound.subnets.together)
-    this.subnet_at this.reservation_at that.subnet_at that.reservation_at same
+    this.subnet_at this.reservation_at that.subnet_at that.reservation_at its same
 
 pub one_of_identity : ClientHasOneReservation
 one_of_identity c i j l p q sound this that same =

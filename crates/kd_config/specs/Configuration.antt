@@ -26,10 +26,12 @@ no_extensions =
       keeps_leases = false;
       is_authoritative = false;
       ignores_client_ids = false;
+      ranks_identities = false;
     }
 
--- those of a configuration of Kea's are: relays select links, clients keep leases, and whether the
--- server is authoritative and ignores client identifiers is as its file says
+-- those of a configuration of Kea's are: relays select links, clients keep leases, the kinds of
+-- identities have an order, and whether the server is authoritative and ignores client identifiers is
+-- as its file says
 abbrev pub kea_extensions : Bool → Bool → Extensions
 kea_extensions is_authoritative ignores_client_ids =
     record {
@@ -37,6 +39,7 @@ kea_extensions is_authoritative ignores_client_ids =
       keeps_leases = true;
       is_authoritative = is_authoritative;
       ignores_client_ids = ignores_client_ids;
+      ranks_identities = true;
     }
 
 -- the times of the built-in configuration

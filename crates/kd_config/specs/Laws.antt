@@ -30,10 +30,10 @@ AddressHasOnePool = (c : Configuration) (a i j k l : ℕ) (pool other : Pool) �
 
 -- two reservations of one address are the same: they have the same index in the same subnet
 abbrev pub AddressHasOneReservation : Type 0
-AddressHasOneReservation = (c : Configuration) (i j k l : ℕ) (reservation other : Reservation)
+AddressHasOneReservation = (c : Configuration) (a i j k l : ℕ) (reservation other : Reservation)
     → IsSound c
     → HasReservation c i j reservation → HasReservation c k l other
-    → reservation.address ≡ other.address
+    → reservation.address ≡ Some a → other.address ≡ Some a
     → (i ≡ k) × (j ≡ l)
 
 -- two reservations of one subnet for one client are the same: they have the same index

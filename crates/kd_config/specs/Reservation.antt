@@ -1,38 +1,61 @@
--- The reservation for a client: the first for its hardware address or its identifier, and how it is
--- found.
-use Rattle.std.specs.Prelude.{◌≡◌, ℕ, ◌==◌, nat_eq, min, Bool, true, false, ◌||◌, List, Option, Some, None}
-use Rattle.std.specs.List.{list_any, position_from}
+-- The reservation for a client: the first for its hardware address or its identifier, or the one
+-- for it by one kind of identity, and how it is found.
+use Rattle.std.specs.Prelude.{◌≡◌, ℕ, ◌==◌, min, Bool, true, false, ◌||◌, List, [], ◌∷◌, Option, Some, None}
+use Rattle.std.specs.List.{position_from}
 use Rattle.std.specs.Str.{bytes_eq}
 use Rattle.kd_config.specs.declared.reservation.Identity.{Identity}
-use Rattle.kd_config.specs.declared.reservation.Identity.TheVariants.{Hardware, ClientId}
+use Rattle.kd_config.specs.declared.reservation.Identity.TheVariants as clients
+use Rattle.kd_config.specs.declared.reservation.IdentityKind.{IdentityKind}
+use Rattle.kd_config.specs.declared.reservation.IdentityKind.TheVariants as kinds
 use Rattle.kd_config.specs.declared.reservation.Reservation.{Reservation}
 
--- these are the addresses of the reservations
-abbrev pub HasAddresses : List ℕ → List Reservation → Type 0
-HasAddresses addresses reservations =
-    (a : ℕ) → list_any (nat_eq a) addresses
-    ≡ list_any (λ reservation. reservation.address == a) reservations
+-- there is an address, and it is this one
+abbrev pub same_address : Option ℕ → ℕ → Bool
+same_address None a = false
+same_address (Some b) a = b == a
 
--- the client has these bytes: as its hardware address, or else as its identifier
-abbrev pub is_client : Bool → List ℕ → Identity → Bool
-is_client true bytes (Hardware own) = bytes_eq bytes own
-is_client false bytes (ClientId own) = bytes_eq bytes own
+-- a reservation has this address
+abbrev pub has_reserved : ℕ → Reservation → Bool
+has_reserved a reservation = same_address reservation.address a
+
+-- the addresses that there are: one, or none
+abbrev pub listed : Option ℕ → List ℕ
+listed None = []
+listed (Some a) = a ∷ []
+
+-- the client has these bytes, by this kind of identity
+abbrev pub is_client : IdentityKind → List ℕ → Identity → Bool
+is_client kinds.Hardware bytes (clients.Hardware own) = bytes_eq bytes own
+is_client kinds.Duid bytes (clients.Duid own) = bytes_eq bytes own
+is_client kinds.Circuit bytes (clients.Circuit own) = bytes_eq bytes own
+is_client kinds.ClientId bytes (clients.ClientId own) = bytes_eq bytes own
 is_client _ _ _ = false
 
 -- the same, if there are bytes
-abbrev pub is_client_if : Bool → Option (List ℕ) → Identity → Bool
-is_client_if hardware None identity = false
-is_client_if hardware (Some bytes) identity = is_client hardware bytes identity
+abbrev pub is_client_if : IdentityKind → Option (List ℕ) → Identity → Bool
+is_client_if kind None identity = false
+is_client_if kind (Some bytes) identity = is_client kind bytes identity
 
 -- the client has this hardware address, or this identifier, if there is one
 abbrev pub identified_by : List ℕ → Option (List ℕ) → Identity → Bool
-identified_by mac id identity = is_client true mac identity || is_client_if false id identity
+identified_by mac id identity =
+    is_client kinds.Hardware mac identity || is_client_if kinds.ClientId id identity
+
+-- the client is known by what its relay says
+abbrev pub is_relayed : Identity → Bool
+is_relayed (clients.Circuit bytes) = true
+is_relayed other = false
+
+-- the lookup of an address finds the place of its reservation
+abbrev pub AreAddresses : (ℕ → Option ℕ) → List Reservation → Type 0
+AreAddresses found reservations =
+    (a : ℕ) → found a ≡ position_from (has_reserved a) 0 reservations
 
 -- the lookup of a client's bytes finds the place of its first reservation
-abbrev pub ArePlaces : Bool → (List ℕ → Option ℕ) → List Reservation → Type 0
-ArePlaces hardware found reservations =
+abbrev pub ArePlaces : IdentityKind → (List ℕ → Option ℕ) → List Reservation → Type 0
+ArePlaces kind found reservations =
     (bytes : List ℕ) → found bytes
-    ≡ position_from (λ reservation. is_client hardware bytes reservation.identity) 0 reservations
+    ≡ position_from (λ reservation. is_client kind bytes reservation.identity) 0 reservations
 
 -- what is found for bytes, if there are any
 abbrev pub found_if : (List ℕ → Option ℕ) → Option (List ℕ) → Option ℕ
@@ -40,9 +63,11 @@ found_if found None = None
 found_if found (Some bytes) = found bytes
 
 -- the bytes of a client, if they are of this kind
-abbrev pub bytes_of_kind : Bool → Identity → Option (List ℕ)
-bytes_of_kind true (Hardware own) = Some own
-bytes_of_kind false (ClientId own) = Some own
+abbrev pub bytes_of_kind : IdentityKind → Identity → Option (List ℕ)
+bytes_of_kind kinds.Hardware (clients.Hardware own) = Some own
+bytes_of_kind kinds.Duid (clients.Duid own) = Some own
+bytes_of_kind kinds.Circuit (clients.Circuit own) = Some own
+bytes_of_kind kinds.ClientId (clients.ClientId own) = Some own
 bytes_of_kind _ _ = None
 
 -- the lesser of two places, if there are any

@@ -1,15 +1,16 @@
 -- Rules over a whole configuration: pools and reserved addresses are within their subnet's prefix,
 -- no two pools share an address, no address is reserved twice, and no client has two reservations
 -- in one subnet.
-use Rattle.std.specs.Prelude.{ℕ, Bool, true, false, not, ◌&&◌, nat_eq, bytes_eq, List, [], ◌∷◌, ◌++◌, map}
-use Rattle.std.specs.List.{list_all, list_any}
+use Rattle.std.specs.Prelude.{ℕ, Bool, true, false, not, ◌&&◌, nat_eq, bytes_eq, List, [], ◌∷◌, ◌++◌, map, Option, Some, None}
+use Rattle.std.specs.List.{flat_map, list_all, list_any}
 use Rattle.kd_config.specs.Address.{has_address}
 use Rattle.kd_config.specs.Apart.{lie_apart}
+use Rattle.kd_config.specs.Reservation.{listed}
 use Rattle.kd_config.specs.declared.pool.Pool.{Pool}
 use Rattle.kd_config.specs.declared.prefix.Prefix.{Prefix}
 use Rattle.kd_config.specs.declared.range.Range.{Range}
 use Rattle.kd_config.specs.declared.reservation.Identity.{Identity}
-use Rattle.kd_config.specs.declared.reservation.Identity.TheVariants.{Hardware, ClientId}
+use Rattle.kd_config.specs.declared.reservation.Identity.TheVariants as clients
 use Rattle.kd_config.specs.declared.reservation.Reservation.{Reservation}
 use Rattle.kd_config.specs.declared.subnet.Subnet.{Subnet}
 
@@ -19,18 +20,24 @@ lies_within prefix pool = has_address prefix pool.range.first && has_address pre
 
 -- the addresses of reservations
 abbrev pub reserved : List Reservation → List ℕ
-reserved reservations = map (λ reservation. reservation.address) reservations
+reserved reservations = flat_map (λ reservation. listed reservation.address) reservations
 
 -- two reservations are for the same client
 abbrev pub same_identity : Identity → Identity → Bool
-same_identity (Hardware a) (Hardware b) = bytes_eq a b
-same_identity (ClientId a) (ClientId b) = bytes_eq a b
+same_identity (clients.Hardware a) (clients.Hardware b) = bytes_eq a b
+same_identity (clients.Duid a) (clients.Duid b) = bytes_eq a b
+same_identity (clients.Circuit a) (clients.Circuit b) = bytes_eq a b
+same_identity (clients.ClientId a) (clients.ClientId b) = bytes_eq a b
 same_identity _ _ = false
 
--- a reservation has an address of the prefix that is not one of the earlier ones
+-- an address, if there is one, is of the prefix and not one of the earlier ones
+abbrev pub may_have : Prefix → List ℕ → Option ℕ → Bool
+may_have prefix earlier None = true
+may_have prefix earlier (Some a) = has_address prefix a && not (list_any (nat_eq a) earlier)
+
+-- a reservation has no address, or one of the prefix that is not one of the earlier ones
 abbrev pub may_reserve : Prefix → List ℕ → Reservation → Bool
-may_reserve prefix earlier reservation =
-    has_address prefix reservation.address && not (list_any (nat_eq reservation.address) earlier)
+may_reserve prefix earlier reservation = may_have prefix earlier reservation.address
 
 -- a client is not one of the earlier ones
 abbrev pub is_new : List Identity → Identity → Bool
@@ -42,7 +49,7 @@ may_all_reserve prefix earlier clients [] = true
 may_all_reserve prefix earlier clients (r ∷ rs) =
     may_reserve prefix earlier r
     && (is_new clients r.identity
-    && may_all_reserve prefix (earlier ++ r.address ∷ []) (clients ++ r.identity ∷ []) rs)
+    && may_all_reserve prefix (earlier ++ listed r.address) (clients ++ r.identity ∷ []) rs)
 
 -- the rules of one subnet, after the addresses reserved before it
 unfoldable pub obeys : List ℕ → Subnet → Bool

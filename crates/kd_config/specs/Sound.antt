@@ -15,7 +15,7 @@ use Rattle.kd_config.specs.declared.pool.Pool.{Pool}
 use Rattle.kd_config.specs.declared.prefix.Prefix.{Prefix}
 use Rattle.kd_config.specs.declared.range.Range.{Range}
 use Rattle.kd_config.specs.declared.reservation.Identity.{Identity}
-use Rattle.kd_config.specs.declared.reservation.Identity.TheVariants.{Hardware, ClientId}
+use Rattle.kd_config.specs.declared.reservation.Identity.TheVariants as clients
 use Rattle.kd_config.specs.declared.reservation.Reservation.{Reservation}
 use Rattle.kd_config.specs.declared.subnet.Subnet.{Subnet}
 use Rattle.kd_config.specs.declared.times.Times.{Times}
@@ -85,10 +85,12 @@ pub record IsPool (pool : Pool) : Type 0 where
   pub range : IsRange pool.range
   pub options : AreOptions pool.options
 
--- a client, by its hardware address or its identifier
+-- a client, by its hardware address, or by its DUID, its circuit or its identifier
 abbrev pub IsIdentity : Identity → Type 0
-IsIdentity (Hardware bytes) = IsFrom 1 16 (length bytes)
-IsIdentity (ClientId bytes) = IsFrom 1 255 (length bytes)
+IsIdentity (clients.Hardware bytes) = IsFrom 1 16 (length bytes)
+IsIdentity (clients.Duid bytes) = IsFrom 1 255 (length bytes)
+IsIdentity (clients.Circuit bytes) = IsFrom 1 255 (length bytes)
+IsIdentity (clients.ClientId bytes) = IsFrom 1 255 (length bytes)
 
 -- a reservation
 pub record IsReservation (reservation : Reservation) : Type 0 where

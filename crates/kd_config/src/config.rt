@@ -1,12 +1,13 @@
 ghost use Rattle.std.specs.Prelude.{◌≡◌, IfOk};
 ghost use Rattle.std.specs.Option.{option_copied};
 ghost use Rattle.std.specs.List.{list_any};
-ghost use Rattle.kd_config.specs.Booted.{gives_boot};
+ghost use Rattle.kd_config.specs.Booted.{gives_boot, has_reservations, is_some_reserved};
 ghost use Rattle.kd_config.specs.Networks.{covers, home_of, network_at, part_holding};
 ghost use Rattle.kd_config.specs.Sound.{IsSound};
 
 use crate::extensions::Extensions;
 use crate::networks::{has_in, networks_of, part_of};
+use crate::reservation::Reservation;
 use crate::subnet::Subnet;
 use crate::times::Times;
 use kd_classes::{Boot, Classes, OptionData, OptionList};
@@ -28,12 +29,14 @@ pub struct Config {
     networks: Vec<Subnet>,
     // Whether a subnet gives anything to boot fields.
     boots: bool,
+    // Whether a subnet has a reservation.
+    reserves: bool,
 }
 
 impl Model for Config {
     ghost use Rattle.std.specs.Prelude.{◌≡◌};
     ghost use Rattle.std.specs.List.{list_any};
-    ghost use Rattle.kd_config.specs.Booted.{gives_boot};
+    ghost use Rattle.kd_config.specs.Booted.{gives_boot, has_reservations};
     ghost use Rattle.kd_config.specs.Configuration.{Configuration};
     ghost use Rattle.kd_config.specs.Networks.{networks_in};
     ghost use Rattle.kd_config.specs.Sound.{IsSound};
@@ -57,7 +60,8 @@ impl Model for Config {
       classes = c.classes;
       subnets = c.subnets;
     }) × (c.networks.items ≡ networks_in c.subnets)
-        × (c.boots ≡ list_any gives_boot c.subnets) };
+        × (c.boots ≡ list_any gives_boot c.subnets)
+        × (c.reserves ≡ list_any has_reservations c.subnets) };
 }
 
 impl Config {
@@ -94,6 +98,7 @@ impl Config {
     {
         let networks = networks_of(alloc, subnets.as_slice())?;
         let boots = has_boot(subnets.as_slice());
+        let reserves = is_any_reserving(subnets.as_slice());
         Ok(Config {
             server,
             times,
@@ -103,6 +108,7 @@ impl Config {
             subnets,
             networks,
             boots,
+            reserves,
         })
     }
 
@@ -153,6 +159,13 @@ impl Config {
         ensures sound { IsSound self.now }
     {
         self.subnets.as_slice()
+    }
+
+    /// Reports whether any subnet has a reservation.
+    pub fn has_reservations(&self) -> bool
+        ensures { result ≡ list_any has_reservations self.now.subnets }
+    {
+        self.reserves
     }
 
     /// Returns the subnet in which a client of this one is served: its shared network as one subnet,
@@ -221,4 +234,23 @@ fn has_boot(subnets: &[Subnet]) -> bool
     ensures { result ≡ list_any gives_boot subnets.now }
 {
     subnets.iter().any(|subnet| !subnet.boot.is_none())
+}
+
+// Reports whether one of these subnets has a reservation.
+fn is_any_reserving(subnets: &[Subnet]) -> bool
+    ensures { result ≡ list_any has_reservations subnets.now }
+{
+    subnets
+        .iter()
+        .any(|subnet| has_some(subnet.reservations.as_slice()))
+}
+
+// Reports whether there is a reservation.
+fn has_some(reservations: &[Reservation]) -> bool
+    ensures { result ≡ is_some_reserved reservations.now }
+{
+    match reservations {
+        [] => false,
+        [_, ..] => true,
+    }
 }

@@ -70,6 +70,8 @@ fn identity_copied(alloc: Global, identity: &Identity) -> Result<Identity, Alloc
 {
     match identity {
         Identity::Hardware(bytes) => Ok(Identity::Hardware(bytes_copied(alloc, bytes)?)),
+        Identity::Duid(bytes) => Ok(Identity::Duid(bytes_copied(alloc, bytes)?)),
+        Identity::Circuit(bytes) => Ok(Identity::Circuit(bytes_copied(alloc, bytes)?)),
         Identity::ClientId(bytes) => Ok(Identity::ClientId(bytes_copied(alloc, bytes)?)),
     }
 }

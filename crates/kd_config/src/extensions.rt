@@ -16,6 +16,10 @@ pub struct Extensions {
     /// A client is known by its hardware, whatever client identifier it sends (Kea Administrator
     /// Reference Manual, Using Client Identifier and Hardware Address).
     pub ignores_client_ids: bool,
+    /// The reservation of a client is that for its hardware address, or else that for its DUID, its
+    /// circuit or its identifier, in this order (Kea Administrator Reference Manual, Host
+    /// Reservations in DHCPv4).
+    pub ranks_identities: bool,
 }
 
 impl Extensions {
@@ -28,11 +32,12 @@ impl Extensions {
             keeps_leases: false,
             is_authoritative: false,
             ignores_client_ids: false,
+            ranks_identities: false,
         }
     }
 
-    /// Returns those of a configuration of Kea's: relays select links and clients keep leases, and
-    /// the other two are as the file says.
+    /// Returns those of a configuration of Kea's: relays select links, clients keep leases and the
+    /// kinds of identities have an order, and the other two are as the file says.
     pub fn of_kea(is_authoritative: bool, ignores_client_ids: bool) -> Extensions
         ensures { result ≡ kea_extensions is_authoritative ignores_client_ids }
     {
@@ -41,6 +46,7 @@ impl Extensions {
             keeps_leases: true,
             is_authoritative,
             ignores_client_ids,
+            ranks_identities: true,
         }
     }
 }

@@ -31,7 +31,7 @@ pub use kd_wire::Entries;
 pub use pool::Pool;
 pub use prefix::Prefix;
 pub use range::Range;
-pub use reservation::{Identity, Reservation};
+pub use reservation::{Identity, IdentityKind, Reservation};
 pub use reservations::Reservations;
 pub use subnet::Subnet;
 pub use times::Times;

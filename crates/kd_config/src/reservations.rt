@@ -1,45 +1,53 @@
-ghost use Rattle.std.specs.Prelude.{◌≡◌, ◌==◌, IfOk, List, None, OnOk, Some, [], if◌then◌else◌, slice_get, ℕ};
+ghost use Rattle.std.specs.Prelude.{◌≡◌, ◌==◌, IfOk, List, None, OnOk, Some, [], if◌then◌else◌, nat_eq, slice_get, ℕ};
 ghost use Rattle.std.specs.List.{find, list_any};
 ghost use Rattle.std.specs.Option.{option_copied, option_or};
 ghost use Rattle.std.specs.Str.{bytes_eq};
 ghost use Rattle.indexmap.specs.IndexMap.{get_by};
-ghost use Rattle.indexmap.specs.IndexSet.{keys};
-ghost use Rattle.kd_config.specs.Reservation.{ArePlaces, HasAddresses, bytes_of_kind, earlier, found_if, identified_by, is_client};
+ghost use Rattle.kd_config.specs.Reservation.{AreAddresses, ArePlaces, bytes_of_kind, earlier, found_if, has_reserved, identified_by, is_client, is_client_if, same_address};
 
-use crate::reservation::{Identity, Reservation};
-use indexmap::{IndexMap, IndexSet};
+use crate::reservation::{Identity, IdentityKind, Reservation};
+use indexmap::IndexMap;
 use std::alloc::{AllocError, Global};
 use std::marker::Model;
 
-/// The reservations of a subnet, in the order in which they are written. Finding an address, or the
-/// first reservation for a client, takes a time that does not grow with their number.
+/// The reservations of a subnet, in the order in which they are written. Finding that of an address,
+/// or the first for a client, takes a time that does not grow with their number.
 #[derive(Drop)]
 pub struct Reservations {
     list: Vec<Reservation>,
-    // The addresses of the reservations.
-    addresses: IndexSet<u32>,
+    // The index of the first reservation of each address.
+    addresses: IndexMap<u32, usize>,
     // The index of the first reservation for each hardware address.
     hardware: IndexMap<Vec<u8>, usize>,
+    // The index of the first reservation for each DUID.
+    duids: IndexMap<Vec<u8>, usize>,
+    // The index of the first reservation for each circuit.
+    circuits: IndexMap<Vec<u8>, usize>,
     // The index of the first reservation for each client identifier.
     identifiers: IndexMap<Vec<u8>, usize>,
 }
 
 impl Model for Reservations {
-    ghost use Rattle.std.specs.Prelude.{List, false, true};
+    ghost use Rattle.std.specs.Prelude.{List, nat_eq};
     ghost use Rattle.std.specs.Str.{bytes_eq};
     ghost use Rattle.indexmap.specs.IndexMap.{get_by};
-    ghost use Rattle.indexmap.specs.IndexSet.{keys};
-    ghost use Rattle.kd_config.specs.Reservation.{ArePlaces, HasAddresses};
+    ghost use Rattle.kd_config.specs.Reservation.{AreAddresses, ArePlaces};
+    ghost use Rattle.kd_config.specs.declared.reservation.IdentityKind.TheVariants as kinds;
     ghost use Rattle.kd_config.specs.declared.reservation.Reservation.{Reservation};
 
     ghost Value = { List Reservation };
 
     ghost view = { λ r. r.list.items };
 
-    ghost invariant = { λ r. HasAddresses (keys r.addresses) r.list.items
-        × ArePlaces true (λ bytes. get_by (λ key. bytes_eq bytes key.items) r.hardware) r.list.items
-        × ArePlaces false (λ bytes. get_by (λ key. bytes_eq bytes key.items) r.identifiers)
-        r.list.items };
+    ghost invariant = { λ r. AreAddresses (λ a. get_by (nat_eq a) r.addresses) r.list.items
+        × ArePlaces kinds.Hardware (λ bytes. get_by (λ key. bytes_eq bytes key.items) r.hardware)
+        r.list.items
+        × ArePlaces kinds.Duid (λ bytes. get_by (λ key. bytes_eq bytes key.items) r.duids)
+        r.list.items
+        × ArePlaces kinds.Circuit (λ bytes. get_by (λ key. bytes_eq bytes key.items) r.circuits)
+        r.list.items
+        × ArePlaces kinds.ClientId
+        (λ bytes. get_by (λ key. bytes_eq bytes key.items) r.identifiers) r.list.items };
 }
 
 impl Reservations {
@@ -49,8 +57,10 @@ impl Reservations {
     {
         Reservations {
             list: Vec::new(alloc),
-            addresses: IndexSet::new(alloc),
+            addresses: IndexMap::new(alloc),
             hardware: IndexMap::new(alloc),
+            duids: IndexMap::new(alloc),
+            circuits: IndexMap::new(alloc),
             identifiers: IndexMap::new(alloc),
         }
     }
@@ -64,12 +74,16 @@ impl Reservations {
         ensures { IfOk result (λ reservations. reservations ≡ list.items) }
     {
         let addresses = addresses_of(alloc, &list)?;
-        let hardware = places_of(alloc, &list, true)?;
-        let identifiers = places_of(alloc, &list, false)?;
+        let hardware = places_of(alloc, &list, IdentityKind::Hardware)?;
+        let duids = places_of(alloc, &list, IdentityKind::Duid)?;
+        let circuits = places_of(alloc, &list, IdentityKind::Circuit)?;
+        let identifiers = places_of(alloc, &list, IdentityKind::ClientId)?;
         Ok(Reservations {
             list,
             addresses,
             hardware,
+            duids,
+            circuits,
             identifiers,
         })
     }
@@ -83,9 +97,19 @@ impl Reservations {
 
     /// Reports whether an address, in host order, is reserved.
     pub fn has(&self, address: u32) -> bool
-        ensures { result ≡ list_any (λ reservation. reservation.address == address) self.now }
+        ensures { result ≡ list_any (has_reserved address) self.now }
     {
-        self.addresses.contains(&address)
+        self.addresses.get(&address).is_some()
+    }
+
+    /// Returns the first reservation of an address, in host order, if there is one.
+    pub fn of_address(&self, address: u32) -> Option<&Reservation>
+        ensures { option_copied result ≡ find (has_reserved address) self.now }
+    {
+        match self.addresses.get(&address).copied() {
+            Some(place) => self.at(place),
+            None => None,
+        }
     }
 
     /// Returns the first reservation for the client with a hardware address or an identifier, if
@@ -103,6 +127,32 @@ impl Reservations {
         }
     }
 
+    /// Returns the first reservation for the client that has these bytes by a kind of identity, if
+    /// there are bytes and there is one.
+    pub fn of_kind(&self, kind: IdentityKind, bytes: Option<&[u8]>) -> Option<&Reservation>
+        ensures { option_copied result
+            ≡ find (λ reservation. is_client_if kind (option_copied bytes.entry)
+            reservation.identity) self.now }
+    {
+        match place_in(self.places(kind), bytes) {
+            Some(place) => self.at(place),
+            None => None,
+        }
+    }
+
+    // Returns the indexes of the first reservations for clients, by a kind of identity.
+    fn places(&self, kind: IdentityKind) -> &IndexMap<Vec<u8>, usize>
+        ensures { ArePlaces kind (λ bytes. get_by (λ key. bytes_eq bytes key.items) result.now)
+            self.now }
+    {
+        match kind {
+            IdentityKind::Hardware => &self.hardware,
+            IdentityKind::Duid => &self.duids,
+            IdentityKind::Circuit => &self.circuits,
+            IdentityKind::ClientId => &self.identifiers,
+        }
+    }
+
     // Returns the reservation at an index, if there is one.
     fn at(&self, place: usize) -> Option<&Reservation>
         ensures { option_copied result ≡ slice_get self.now place }
@@ -111,15 +161,54 @@ impl Reservations {
     }
 }
 
-// Collects the addresses of reservations.
-fn addresses_of(alloc: Global, list: &[Reservation]) -> Result<IndexSet<u32>, AllocError>
-    ensures { IfOk result (λ addresses. HasAddresses (keys addresses) list.now) }
+// Collects the index of the first reservation of each address.
+fn addresses_of(alloc: Global, list: &[Reservation]) -> Result<IndexMap<u32, usize>, AllocError>
+    ensures { IfOk result
+        (λ addresses. AreAddresses (λ a. get_by (nat_eq a) addresses) list.now) }
 {
-    let mut addresses = IndexSet::new(alloc);
-    for reservation in list {
-        let _new = addresses.insert(reservation.address)?;
+    let mut addresses = IndexMap::new(alloc);
+    for i in 0..list.len() {
+        put_address(&mut addresses, list[i].address, i)?;
     }
     Ok(addresses)
+}
+
+// Stores the index of an address that has none yet, if there is an address.
+fn put_address(
+    addresses: &mut IndexMap<u32, usize>,
+    address: Option<u32>,
+    place: usize,
+) -> Result<(), AllocError>
+    ensures { OnOk result ((a : ℕ)
+        → get_by (nat_eq a) addresses.new
+        ≡ option_or (get_by (nat_eq a) addresses.old)
+        (if same_address address a then Some place else None)) }
+{
+    match address {
+        Some(address) => put_new(addresses, address, place)?,
+        None => {}
+    }
+    Ok(())
+}
+
+// Stores the index of an address that has none yet.
+fn put_new(
+    addresses: &mut IndexMap<u32, usize>,
+    address: u32,
+    place: usize,
+) -> Result<(), AllocError>
+    ensures { OnOk result ((a : ℕ)
+        → get_by (nat_eq a) addresses.new
+        ≡ option_or (get_by (nat_eq a) addresses.old)
+        (if address == a then Some place else None)) }
+{
+    match addresses.get(&address) {
+        Some(_) => {}
+        None => {
+            let _old = addresses.insert(address, place)?;
+        }
+    }
+    Ok(())
 }
 
 // Returns the lesser of two indexes, if there are any.
@@ -144,19 +233,18 @@ fn place_in(places: &IndexMap<Vec<u8>, usize>, bytes: Option<&[u8]>) -> Option<u
     }
 }
 
-// Collects the index of the first reservation for each client, either by hardware address or by
-// identifier.
+// Collects the index of the first reservation for each client, by a kind of identity.
 fn places_of(
     alloc: Global,
     list: &[Reservation],
-    is_hardware: bool,
+    kind: IdentityKind,
 ) -> Result<IndexMap<Vec<u8>, usize>, AllocError>
-    ensures { IfOk result (λ places. ArePlaces is_hardware
+    ensures { IfOk result (λ places. ArePlaces kind
         (λ bytes. get_by (λ key. bytes_eq bytes key.items) places) list.now) }
 {
     let mut places = IndexMap::new(alloc);
     for i in 0..list.len() {
-        put_client(alloc, &mut places, &list[i].identity, is_hardware, i)?;
+        put_client(alloc, &mut places, &list[i].identity, kind, i)?;
     }
     Ok(places)
 }
@@ -166,28 +254,30 @@ fn put_client(
     alloc: Global,
     places: &mut IndexMap<Vec<u8>, usize>,
     identity: &Identity,
-    is_hardware: bool,
+    kind: IdentityKind,
     place: usize,
 ) -> Result<(), AllocError>
     ensures { OnOk result ((other : List ℕ)
         → get_by (λ key. bytes_eq other key.items) places.new
         ≡ option_or (get_by (λ key. bytes_eq other key.items) places.old)
-        (if is_client is_hardware other identity.now then Some place else None)) }
+        (if is_client kind other identity.now then Some place else None)) }
 {
-    match bytes_of(identity, is_hardware) {
+    match bytes_of(identity, kind) {
         Some(bytes) => put_place(alloc, places, bytes, place)?,
         None => {}
     }
     Ok(())
 }
 
-// Returns the bytes of a client, if they are a hardware address or an identifier as asked.
-fn bytes_of(identity: &Identity, is_hardware: bool) -> Option<&[u8]>
-    ensures { option_copied result ≡ bytes_of_kind is_hardware identity.now }
+// Returns the bytes of a client, if they are of this kind.
+fn bytes_of(identity: &Identity, kind: IdentityKind) -> Option<&[u8]>
+    ensures { option_copied result ≡ bytes_of_kind kind identity.now }
 {
-    match identity {
-        Identity::Hardware(bytes) if is_hardware => Some(bytes.as_slice()),
-        Identity::ClientId(bytes) if !is_hardware => Some(bytes.as_slice()),
+    match (kind, identity) {
+        (IdentityKind::Hardware, Identity::Hardware(bytes)) => Some(bytes.as_slice()),
+        (IdentityKind::Duid, Identity::Duid(bytes)) => Some(bytes.as_slice()),
+        (IdentityKind::Circuit, Identity::Circuit(bytes)) => Some(bytes.as_slice()),
+        (IdentityKind::ClientId, Identity::ClientId(bytes)) => Some(bytes.as_slice()),
         _ => None,
     }
 }

@@ -1,7 +1,7 @@
-use Rattle.std.proofs.Common.{take}
-use Rattle.indexmap.specs.IndexSet.{keys}
-use Rattle.kd_config.specs.Reservation.{HasAddresses}
+use Rattle.std.proofs.Common.{nat_eq, take}
+use Rattle.indexmap.specs.IndexMap.{get_by}
+use Rattle.kd_config.specs.Reservation.{AreAddresses}
 use Rattle.kd_config.proofs.reservations.addresses_of.Given as goal
 
-abbrev pub invariant-loop-reservation : goal.invariant-loop-reservation
-invariant-loop-reservation l = HasAddresses (keys l.addresses) (take l.reservation-index l.list)
+abbrev pub invariant-loop-i : goal.invariant-loop-i
+invariant-loop-i l = AreAddresses (λ a. get_by (nat_eq a) l.addresses) (take l.i l.list)

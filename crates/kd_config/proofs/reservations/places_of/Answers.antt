@@ -16,7 +16,7 @@ loop-i-preserved c = λ bytes.
     let r = c.index-list-i.result in
     let more : take (i + 1) list ≡ take i list ++ r ∷ [] = take_more list i r c.loop-i-test.true ∙ ap (λ x. take i list ++ x ∷ []) (sym c.index-list-i.is) in
     let length : 0 + length (take i list) ≡ i = (let plain = length-take-le i list (omega (arith, c.loop-i-test.true)) in omega (arith, plain)) in
-    let test : Reservation → Bool = λ x. is_client c.args.is_hardware bytes x.identity in
+    let test : Reservation → Bool = λ x. is_client c.args.kind bytes x.identity in
     c.in_ok-put_client.ensures bytes
     ∙ ap (λ (x : Reservation). option_or (get_by (λ key. bytes_eq bytes key.items) c.loop-i.places) (if test x then Some i else None)) (sym c.index-list-i.is)
     ∙ ap (λ x. option_or x (if test r then Some i else None)) (c.loop-i.invariant bytes)

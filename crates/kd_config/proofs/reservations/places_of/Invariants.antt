@@ -5,4 +5,4 @@ use Rattle.kd_config.specs.Reservation.{ArePlaces}
 use Rattle.kd_config.proofs.reservations.places_of.Given as goal
 
 abbrev pub invariant-loop-i : goal.invariant-loop-i
-invariant-loop-i l = ArePlaces l.is_hardware (λ bytes. get_by (λ key. bytes_eq bytes key.items) l.places) (take l.i l.list)
+invariant-loop-i l = ArePlaces l.kind (λ bytes. get_by (λ key. bytes_eq bytes key.items) l.places) (take l.i l.list)

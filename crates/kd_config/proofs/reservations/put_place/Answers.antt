@@ -13,5 +13,5 @@ returns-in_ok-_old-in-None c = λ other.
     let none = sym c.get.ensures.value ∙ ap option_copied c.in-None.is in
     let absent : lookup (λ k. bytes_eq key.items k.items) es ≡ None = ap (λ bytes. lookup (λ k. bytes_eq bytes k.items) es) items ∙ none in
     ap (lookup (λ k. bytes_eq other k.items)) c.in_ok-_old-in-None.ensures.entries
-    ∙ inserted (λ k. k.items) es key c.args.place other absent
+    ∙ inserted bytes_eq (λ k. k.items) es key c.args.place other absent
     ∙ ap (λ bytes. option_or (lookup (λ k. bytes_eq other k.items) es) (if bytes_eq other bytes then Some c.args.place else None)) items

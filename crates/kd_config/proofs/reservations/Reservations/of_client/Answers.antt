@@ -13,7 +13,7 @@ returns-in-Some c =
     let id = option_copied c.args.id in
     let hardware : List ℕ → Option ℕ = λ bytes. get_by (λ key. bytes_eq bytes key.items) c.self.inside.hardware in
     let identifiers : List ℕ → Option ℕ = λ bytes. get_by (λ key. bytes_eq bytes key.items) c.self.inside.identifiers in
-    let first = first_of_client list hardware identifiers c.self.invariant.1 c.self.invariant.2 c.args.mac.now id in
+    let first = first_of_client list hardware identifiers c.self.invariant.1 c.self.invariant.4 c.args.mac.now id in
     let place : c.in-Some.place ≡ c.in-Some.place - 0 = omega arith in
     let found : earlier (hardware c.args.mac.now) (found_if identifiers id) ≡ Some c.in-Some.place =
     ap (λ p. earlier p (found_if identifiers id)) (sym c.place_in-hardware.ensures) ∙ ap (earlier c.place_in-hardware.result) (sym c.place_in-identifier.ensures) ∙ sym c.earlier_of.ensures ∙ c.in-Some.is in
@@ -26,7 +26,7 @@ returns-in-None c =
     let id = option_copied c.args.id in
     let hardware : List ℕ → Option ℕ = λ bytes. get_by (λ key. bytes_eq bytes key.items) c.self.inside.hardware in
     let identifiers : List ℕ → Option ℕ = λ bytes. get_by (λ key. bytes_eq bytes key.items) c.self.inside.identifiers in
-    let first = first_of_client list hardware identifiers c.self.invariant.1 c.self.invariant.2 c.args.mac.now id in
+    let first = first_of_client list hardware identifiers c.self.invariant.1 c.self.invariant.4 c.args.mac.now id in
     let found : earlier (hardware c.args.mac.now) (found_if identifiers id) ≡ None =
     ap (λ p. earlier p (found_if identifiers id)) (sym c.place_in-hardware.ensures) ∙ ap (earlier c.place_in-hardware.result) (sym c.place_in-identifier.ensures) ∙ sym c.earlier_of.ensures ∙ c.in-None.is in
     sym (first ∙ ap (at_place list 0) found) ∙ ap (find (λ r. identified_by c.args.mac.now id r.identity)) (sym is)
