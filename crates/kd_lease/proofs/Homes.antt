@@ -17,8 +17,8 @@ use Rattle.kd_rows.specs.declared.row.Row.{Row}
 use Rattle.kd_lease.specs.Choice.{Asking, contained, fitting_for, reserved_anywhere, reserved_in}
 use Rattle.kd_lease.specs.Keeper.{keeper_in}
 use Rattle.kd_lease.specs.Keeping.{is_record_here, keeper, keeps_it, keeps_pooled}
-use Rattle.kd_lease.specs.Kept.{has_to_keep, kept_in, passes, renews_lease}
-use Rattle.kd_lease.specs.Rules.{client_has, kept_subnet, known_in, lasting_for, passes_in, serving_subnet}
+use Rattle.kd_lease.specs.Kept.{circuit_reservation, has_to_keep, kept_in, passes, renews_lease}
+use Rattle.kd_lease.specs.Rules.{client_has, kept_subnet, known_in, lasting_for, may_last, passes_in, serving_subnet}
 use Rattle.kd_lease.specs.SubnetOf.{subnet_serving}
 use Rattle.kd_lease.proofs.Records.{known_there}
 
@@ -194,9 +194,10 @@ kept_lasts q a h = by (keeper q) refl h where
       let pooled : contained home a ≡ true = home_contains q.config.subnets (has_to_keep q.message.header.ciaddr) s a (found_keeper q s e) rest.0 in
       let kept : is_some (kept_subnet q) ≡ true = ap is_some (sym (kept_at_home q) ∙ ap (option_map (home_of q.config.subnets)) e) in
       let lasts : lasting_for q home a ≡ true =
-      or_right (fitting_for q home a) (is_some (kept_subnet q) && (contained home a && not (reserved_anywhere q.config a)))
-      (and_from (is_some (kept_subnet q)) (contained home a && not (reserved_anywhere q.config a)) kept
-      (and_from (contained home a) (not (reserved_anywhere q.config a)) pooled rest.1)) in
+      or_right (fitting_for q home a) (is_some (kept_subnet q) && may_last q.config home a)
+      (and_from (is_some (kept_subnet q)) (may_last q.config home a) kept
+      (or_left (contained home a && not (reserved_anywhere q.config a)) (is_some (circuit_reservation home a))
+      (and_from (contained home a) (not (reserved_anywhere q.config a)) pooled rest.1))) in
       ap (λ (o : Option Subnet). passes_in (lasting_for q) o (Some a)) (serves_home q s e) ∙ lasts
 
 -- a client that has a row there is known

@@ -11,7 +11,7 @@ use Rattle.kd_options.specs.Message.{Seen}
 use Rattle.kd_lease.specs.Choice.{Asking, contained, fitting_for, reserved_anywhere}
 use Rattle.kd_lease.specs.Client.{selected_link}
 use Rattle.kd_lease.specs.Kept.{renews_lease, subnet_keeping}
-use Rattle.kd_lease.specs.Rules.{kept_subnet, lasting_for, serving_subnet}
+use Rattle.kd_lease.specs.Rules.{kept_subnet, lasting_for, may_last, serving_subnet}
 use Rattle.kd_lease.specs.SubnetOf.{address_or, class_admits, first_serving, has_relay, header_place, is_by_relay, link_of, message_place, served_by, subnet_serving}
 
 -- no subnet has a relay
@@ -80,7 +80,7 @@ renewed_by_class q none =
     let kept : kept_subnet q ≡ None =
     ap (λ (b : Bool). if b && renews_lease q.rows q.message q.now q.client then subnet_keeping q.config.subnets q.message.header.ciaddr else None) none in (
       ap (λ (o : Option Subnet). option_or o (subnet_serving q.config q.names q.message)) kept,
-      λ s a. ap (λ (o : Option Subnet). fitting_for q s a || (is_some o && (contained s a && not (reserved_anywhere q.config a)))) kept ∙ or_false (fitting_for q s a),
+      λ s a. ap (λ (o : Option Subnet). fitting_for q s a || (is_some o && may_last q.config s a)) kept ∙ or_false (fitting_for q s a),
     ) where
       or_false : (b : Bool) → (b || false) ≡ b
       or_false true = refl

@@ -7,17 +7,19 @@ use Rattle.std.proofs.lemmas.Bool.{eqb-true, false≢true}
 use Rattle.kd_config.specs.Address.{has_address}
 use Rattle.kd_config.specs.Apart.{lie_apart}
 use Rattle.kd_config.specs.Configuration.{Configuration}
-use Rattle.kd_config.specs.Reservation.{identified_by, is_client_if}
-use Rattle.kd_config.specs.Rules.{all_obey, pool_ranges, is_new, lies_within, may_all_reserve, may_reserve, may_stand, obeys, reserved}
+use Rattle.kd_config.specs.Booted.{has_reservations, is_some_reserved}
+use Rattle.kd_config.specs.Reservation.{has_reserved, identified_by, is_client_if, listed, same_address}
+use Rattle.kd_config.specs.Rules.{all_obey, pool_ranges, is_new, lies_within, may_all_reserve, may_have, may_reserve, may_stand, obeys, reserved}
 use Rattle.kd_config.specs.Sound.{IsSound}
 use Rattle.kd_config.specs.declared.prefix.Prefix.{Prefix}
 use Rattle.kd_config.specs.declared.reservation.Identity.{Identity}
-use Rattle.kd_config.specs.declared.reservation.Identity.TheVariants.{Hardware, ClientId}
+use Rattle.kd_config.specs.declared.reservation.Identity.TheVariants as clients
+use Rattle.kd_config.specs.declared.reservation.IdentityKind.TheVariants as kinds
 use Rattle.kd_config.specs.declared.reservation.Reservation.{Reservation}
 use Rattle.kd_config.specs.declared.subnet.Subnet.{Subnet}
 use Rattle.kd_options.specs.Joined.{value_of}
 use Rattle.kd_options.specs.Message.{Seen, mac_of}
-use Rattle.kd_lease.specs.Choice.{is_from, reserved_anywhere, reserved_in, client_reservation, same_value}
+use Rattle.kd_lease.specs.Choice.{is_from, ranked_reservation, reserved_anywhere, reserved_in, client_reservation, same_value}
 use Rattle.kd_lease.specs.Seeking.{reserves}
 
 left : (t u : Bool) → (t && u) ≡ true → t ≡ true
@@ -30,19 +32,27 @@ right false u h = absurd (false≢true h)
 
 -- a reserved address is in the prefix
 within : (prefix : Prefix) (earlier : List ℕ) (clients : List Identity) (rs : List Reservation) (a : ℕ)
-    → may_all_reserve prefix earlier clients rs ≡ true → list_any (λ reservation. reservation.address == a) rs ≡ true → has_address prefix a ≡ true
+    → may_all_reserve prefix earlier clients rs ≡ true → list_any (has_reserved a) rs ≡ true → has_address prefix a ≡ true
 within prefix earlier clients [] a may has = absurd (false≢true has)
-within prefix earlier clients (r ∷ rs) a may has = by (r.address == a) refl has (within prefix (earlier ++ r.address ∷ []) (clients ++ r.identity ∷ []) rs a rest) where
-  here : has_address prefix r.address ≡ true
-  here = left (has_address prefix r.address) (not (list_any (nat_eq r.address) earlier)) (left (may_reserve prefix earlier r) (is_new clients r.identity && may_all_reserve prefix (earlier ++ r.address ∷ []) (clients ++ r.identity ∷ []) rs) may)
+within prefix earlier clients (r ∷ rs) a may has = by r.address refl has (within prefix (earlier ++ listed r.address) (clients ++ r.identity ∷ []) rs a rest) where
+  more : Bool
+  more = may_all_reserve prefix (earlier ++ listed r.address) (clients ++ r.identity ∷ []) rs
 
-  rest : may_all_reserve prefix (earlier ++ r.address ∷ []) (clients ++ r.identity ∷ []) rs ≡ true
-  rest = right (is_new clients r.identity) (may_all_reserve prefix (earlier ++ r.address ∷ []) (clients ++ r.identity ∷ []) rs) (right (may_reserve prefix earlier r) (is_new clients r.identity && may_all_reserve prefix (earlier ++ r.address ∷ []) (clients ++ r.identity ∷ []) rs) may)
+  here : may_have prefix earlier r.address ≡ true
+  here = left (may_reserve prefix earlier r) (is_new clients r.identity && more) may
 
-  by : (b : Bool) → (r.address == a) ≡ b → (b || list_any (λ reservation. reservation.address == a) rs) ≡ true
-      → (list_any (λ reservation. reservation.address == a) rs ≡ true → has_address prefix a ≡ true) → has_address prefix a ≡ true
-  by true e h later = subst (λ (n : ℕ). has_address prefix n ≡ true) (eqb-true r.address a e) here
-  by false e h later = later h
+  rest : may_all_reserve prefix (earlier ++ listed r.address) (clients ++ r.identity ∷ []) rs ≡ true
+  rest = right (is_new clients r.identity) more (right (may_reserve prefix earlier r) (is_new clients r.identity && more) may)
+
+  by : (o : Option ℕ) → r.address ≡ o → (same_address o a || list_any (has_reserved a) rs) ≡ true
+      → (list_any (has_reserved a) rs ≡ true → has_address prefix a ≡ true) → has_address prefix a ≡ true
+  by None e h later = later h
+  by (Some b) e h later = this (b == a) refl h where
+    this : (t : Bool) → (b == a) ≡ t → (t || list_any (has_reserved a) rs) ≡ true → has_address prefix a ≡ true
+    this true f g =
+        subst (λ (n : ℕ). has_address prefix n ≡ true) (eqb-true b a f)
+        (left (has_address prefix b) (not (list_any (nat_eq b) earlier)) (subst (λ (p : Option ℕ). may_have prefix earlier p ≡ true) e here))
+    this false f g = later g
 
 in_subnet : (earlier : List ℕ) (s : Subnet) (a : ℕ) → obeys earlier s ≡ true → reserved_in a s ≡ true → has_address s.prefix a ≡ true
 unfolding obeys
@@ -72,18 +82,28 @@ stands subnets h = right (lie_apart (pool_ranges subnets)) (all_obey [] subnets)
 pub reserved_where : (config : Configuration) (a : ℕ) → IsSound config → reserved_anywhere config a ≡ list_any (reserves a) config.subnets
 reserved_where config a sound = each_keeps [] config.subnets a (stands config.subnets sound.subnets.together)
 
-only_hardware : (t : Bool) (own : List ℕ) (id : Option (List ℕ)) → t ≡ (t || is_client_if false id (Hardware own))
+only_hardware : (t : Bool) (own : List ℕ) (id : Option (List ℕ)) → t ≡ (t || is_client_if kinds.ClientId id (clients.Hardware own))
 only_hardware true own id = refl
 only_hardware false own None = refl
 only_hardware false own (Some bytes) = refl
 
-same_id : (own : List ℕ) (id : Option (List ℕ)) → same_value own id ≡ is_client_if false id (ClientId own)
+same_id : (own : List ℕ) (id : Option (List ℕ)) → same_value own id ≡ is_client_if kinds.ClientId id (clients.ClientId own)
 same_id own None = refl
 same_id own (Some bytes) = refl
 
+no_duid : (own : List ℕ) (id : Option (List ℕ)) → false ≡ is_client_if kinds.ClientId id (clients.Duid own)
+no_duid own None = refl
+no_duid own (Some bytes) = refl
+
+no_circuit : (own : List ℕ) (id : Option (List ℕ)) → false ≡ is_client_if kinds.ClientId id (clients.Circuit own)
+no_circuit own None = refl
+no_circuit own (Some bytes) = refl
+
 from_by : (m : Seen) (identity : Identity) → is_from m identity ≡ identified_by (mac_of m.header) (value_of 61 m.options) identity
-from_by m (Hardware own) = only_hardware (bytes_eq (mac_of m.header) own) own (value_of 61 m.options)
-from_by m (ClientId own) = same_id own (value_of 61 m.options)
+from_by m (clients.Hardware own) = only_hardware (bytes_eq (mac_of m.header) own) own (value_of 61 m.options)
+from_by m (clients.Duid own) = no_duid own (value_of 61 m.options)
+from_by m (clients.Circuit own) = no_circuit own (value_of 61 m.options)
+from_by m (clients.ClientId own) = same_id own (value_of 61 m.options)
 
 find_by : (m : Seen) (rs : List Reservation) → find (λ r. is_from m r.identity) rs ≡ find (λ r. identified_by (mac_of m.header) (value_of 61 m.options) r.identity) rs
 find_by m [] = refl
@@ -91,6 +111,25 @@ find_by m (r ∷ rs) =
     ap (λ (b : Bool). if b then Some r else find (λ r. is_from m r.identity) rs) (from_by m r.identity)
     ∙ ap (λ (o : Option Reservation). if identified_by (mac_of m.header) (value_of 61 m.options) r.identity then Some r else o) (find_by m rs)
 
--- whose a reservation is, is decided by what the message says about its client
-pub reservation_by : (m : Seen) (s : Subnet) → client_reservation m s ≡ find (λ r. identified_by (mac_of m.header) (value_of 61 m.options) r.identity) s.reservations
-reservation_by m s = find_by m s.reservations
+-- where kinds of identities have no order, whose a reservation is, is decided by the hardware address
+-- and the identifier of the client
+pub reservation_listed : (config : Configuration) (m : Seen) (s : Subnet) → config.extensions.ranks_identities ≡ false
+    → client_reservation config m s ≡ find (λ r. identified_by (mac_of m.header) (value_of 61 m.options) r.identity) s.reservations
+reservation_listed config m s plain =
+    ap (λ (b : Bool). if b then ranked_reservation m s else find (λ r. is_from m r.identity) s.reservations) plain
+    ∙ find_by m s.reservations
+
+none_in : (rs : List Reservation) (a : ℕ) → is_some_reserved rs ≡ false → list_any (has_reserved a) rs ≡ false
+none_in [] a none = refl
+none_in (r ∷ rs) a none = absurd (false≢true (sym none))
+
+none_among : (subnets : List Subnet) (a : ℕ) → list_any has_reservations subnets ≡ false → list_any (reserved_in a) subnets ≡ false
+none_among [] a none = refl
+none_among (s ∷ subnets) a none = by (is_some_reserved s.reservations) refl none where
+  by : (b : Bool) → is_some_reserved s.reservations ≡ b → (b || list_any has_reservations subnets) ≡ false → (reserved_in a s || list_any (reserved_in a) subnets) ≡ false
+  by true e h = absurd (false≢true (sym h))
+  by false e h = ap (λ b. b || list_any (reserved_in a) subnets) (none_in s.reservations a e) ∙ none_among subnets a h
+
+-- where no subnet has a reservation, no address is reserved
+pub none_reserves : (config : Configuration) (a : ℕ) → list_any has_reservations config.subnets ≡ false → reserved_anywhere config a ≡ false
+none_reserves config a none = none_among config.subnets a none

@@ -11,7 +11,8 @@ use Rattle.kd_config.specs.declared.reservation.Reservation.{Reservation}
 use Rattle.kd_config.specs.declared.subnet.Subnet.{Subnet}
 use Rattle.kd_machine.specs.Parts.{is_held}
 use Rattle.kd_options.specs.Message.{Seen}
-use Rattle.kd_lease.specs.Choice.{Asking, client_reservation}
+use Rattle.kd_lease.specs.Choice.{Asking}
+use Rattle.kd_lease.specs.Kept.{reservation_at}
 use Rattle.kd_lease.specs.Rules.{serving_subnet}
 use Rattle.kd_lease.specs.declared.booting.BootFields.{BootFields}
 use Rattle.kd_lease.specs.declared.plan.PlanKind.{PlanKind}
@@ -22,9 +23,9 @@ abbrev pub boots_reserved : Option Reservation → List Boot
 boots_reserved None = []
 boots_reserved (Some reservation) = reservation.boots
 
--- what the first reservation of a subnet that is for the client of a message gives
-abbrev pub reserved_boots : Seen → Subnet → List Boot
-reserved_boots m s = boots_reserved (client_reservation m s)
+-- what the reservation gives that counts for the reply to a message with an address
+abbrev pub reserved_boots : Configuration → Seen → Subnet → ℕ → List Boot
+reserved_boots config m s a = boots_reserved (reservation_at config m s a)
 
 -- what the classes give whose names are held, in order
 abbrev pub class_boots : List ClassDef → List (List ℕ) → List Boot
@@ -36,7 +37,7 @@ class_boots classes names =
 -- is the one of the part of its shared network that has the address
 unfoldable pub boots_given : Configuration → Subnet → List (List ℕ) → Seen → ℕ → List Boot
 boots_given config subnet names m address =
-    reserved_boots m subnet ++ class_boots config.classes names
+    reserved_boots config m subnet address ++ class_boots config.classes names
     ++ (part_holding config.subnets subnet address).boot ∷ []
 
 -- the fields of a reply with these values; a field without one has zeros

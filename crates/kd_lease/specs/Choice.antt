@@ -1,18 +1,24 @@
 -- The address that a client is offered (RFC 2131 section 4.3.1): which addresses it may have, the
 -- rank of each of them, and which comes first. Reservations are those of the Kea Administrator
--- Reference Manual, section Host Reservations in DHCPv4; the order of pools and the use of option
--- 50 are those of RFC 2131.
-use Rattle.std.specs.Prelude.{◌≡◌, ℕ, ◌+◌, ◌≤◌, Bool, true, false, not, ◌&&◌, ◌||◌, ◌==◌, nat_lt, is_none, List, [], ◌∷◌, Option, Some, None, option_map, if◌then◌else◌}
+-- Reference Manual, section Host Reservations in DHCPv4, with the order of kinds of identities in its
+-- section Fine Tuning DHCPv4 Host Reservation; the order of pools and the use of option 50 are those
+-- of RFC 2131.
+use Rattle.std.specs.Prelude.{◌≡◌, ℕ, ◌+◌, ◌≤◌, Bool, true, false, not, ◌&&◌, ◌||◌, ◌==◌, nat_lt, is_none, List, [], ◌∷◌, Option, Some, None, option_and_then, if◌then◌else◌}
 use Rattle.std.specs.List.{find, list_any}
+use Rattle.std.specs.Option.{option_or}
 use Rattle.std.specs.Str.{bytes_eq}
 use Rattle.kd_config.specs.Apart.{has}
 use Rattle.kd_config.specs.Configuration.{Configuration}
+pub use Rattle.kd_config.specs.Reservation.{same_address}
+use Rattle.kd_config.specs.Reservation.{has_reserved, is_client_if}
 use Rattle.kd_config.specs.declared.pool.Pool.{Pool}
 use Rattle.kd_config.specs.declared.reservation.Identity.{Identity}
-use Rattle.kd_config.specs.declared.reservation.Identity.TheVariants.{Hardware, ClientId}
+use Rattle.kd_config.specs.declared.reservation.Identity.TheVariants as clients
+use Rattle.kd_config.specs.declared.reservation.IdentityKind.{IdentityKind}
+use Rattle.kd_config.specs.declared.reservation.IdentityKind.TheVariants as kinds
 use Rattle.kd_config.specs.declared.reservation.Reservation.{Reservation}
 use Rattle.kd_config.specs.declared.subnet.Subnet.{Subnet}
-use Rattle.kd_lease.specs.Client.{requested_address}
+use Rattle.kd_lease.specs.Client.{client_bytes, requested_address}
 use Rattle.kd_lease.specs.SubnetOf.{class_admits}
 use Rattle.kd_options.specs.Joined.{value_of}
 use Rattle.kd_options.specs.Message.{Seen, mac_of}
@@ -38,29 +44,42 @@ same_value bytes (Some value) = bytes_eq value bytes
 
 -- a message comes from this client: by its hardware address, or by its option 61
 abbrev pub is_from : Seen → Identity → Bool
-is_from m (Hardware bytes) = bytes_eq (mac_of m.header) bytes
-is_from m (ClientId bytes) = same_value bytes (value_of 61 m.options)
+is_from m (clients.Hardware bytes) = bytes_eq (mac_of m.header) bytes
+is_from m (clients.ClientId bytes) = same_value bytes (value_of 61 m.options)
+is_from m other = false
 
--- the reservation for a message: the first of the subnet that is for its client
-abbrev pub client_reservation : Seen → Subnet → Option Reservation
-client_reservation m s = find (λ reservation. is_from m reservation.identity) s.reservations
+-- the first reservation of a subnet that is for the client of a message by this kind of identity
+abbrev pub reservation_by : Seen → Subnet → IdentityKind → Option Reservation
+reservation_by m s kind =
+    find (λ reservation. is_client_if kind (client_bytes m kind) reservation.identity) s.reservations
+
+-- the reservation by the hardware address of the client, or else by its DUID, its circuit or its
+-- identifier, in this order
+abbrev pub ranked_reservation : Seen → Subnet → Option Reservation
+ranked_reservation m s =
+    option_or (reservation_by m s kinds.Hardware)
+    (option_or (reservation_by m s kinds.Duid)
+    (option_or (reservation_by m s kinds.Circuit) (reservation_by m s kinds.ClientId)))
+
+-- the reservation for a message: where kinds of identities have an order, the first by it; otherwise
+-- the first of the subnet that is for its client
+abbrev pub client_reservation : Configuration → Seen → Subnet → Option Reservation
+client_reservation config m s =
+    if config.extensions.ranks_identities then ranked_reservation m s
+    else find (λ reservation. is_from m reservation.identity) s.reservations
 
 -- the address that is reserved for the client of a message
-abbrev pub address_reserved : Seen → Subnet → Option ℕ
-address_reserved m s = option_map (λ reservation. reservation.address) (client_reservation m s)
+abbrev pub address_reserved : Configuration → Seen → Subnet → Option ℕ
+address_reserved config m s =
+    option_and_then (λ reservation. reservation.address) (client_reservation config m s)
 
 -- a subnet has a reservation of this address
 abbrev pub reserved_in : ℕ → Subnet → Bool
-reserved_in a s = list_any (λ reservation. reservation.address == a) s.reservations
+reserved_in a s = list_any (has_reserved a) s.reservations
 
 -- a subnet of the configuration has a reservation of this address
 abbrev pub reserved_anywhere : Configuration → ℕ → Bool
 reserved_anywhere config a = list_any (reserved_in a) config.subnets
-
--- there is an address, and it is this one
-abbrev pub same_address : Option ℕ → ℕ → Bool
-same_address None a = false
-same_address (Some b) a = b == a
 
 -- a pool has an address for a client in the classes with these names
 abbrev pub pool_gives : List (List ℕ) → Pool → ℕ → Bool
@@ -79,7 +98,7 @@ contained s a = list_any (λ pool. has pool.range a) s.pools
 abbrev pub fitting_for : Asking → Subnet → ℕ → Bool
 fitting_for q s a =
     (pooled q.names s a && not (reserved_anywhere q.config a))
-    || same_address (address_reserved q.message s) a
+    || same_address (address_reserved q.config q.message s) a
 
 -- there is a row, and it passes the test
 abbrev pub has_such : (Row → Bool) → Option Row → Bool
@@ -143,7 +162,7 @@ place expired = 6
 
 -- an address has a rank
 abbrev pub has_rank : Asking → Subnet → Rank → ℕ → Bool
-has_rank q s reserved a = same_address (address_reserved q.message s) a && free_for q a
+has_rank q s reserved a = same_address (address_reserved q.config q.message s) a && free_for q a
 has_rank q s own a = has_such (held_row q) (row_at q.rows a) && fitting_for q s a
 has_rank q s past a = has_such (past_row q) (row_at q.rows a) && fitting_for q s a
 has_rank q s asked a = same_address (requested_address q.message) a && usable q s a

@@ -1,13 +1,16 @@
 -- What a message says about its client (RFC 2131 sections 2 and 4.2, RFC 2132 sections 9.6, 9.8,
--- 9.10 and 9.14, RFC 3527; Kea Administrator Reference Manual, Using Client Identifier and Hardware
--- Address): its type, who the client is, which server it names, which options it asks for, how long a
--- reply may be, and the link on which its relay says that it is.
+-- 9.10 and 9.14, RFC 3046 section 3.1, RFC 3527, RFC 4361; Kea Administrator Reference Manual, Using
+-- Client Identifier and Hardware Address): its type, who the client is, which server it names, which
+-- options it asks for, how long a reply may be, and the link and the circuit on which its relay says
+-- that it is.
 use Rattle.std.specs.Prelude.{ℕ, ◌+◌, ◌-◌, ◌*◌, max, min, Bool, true, ◌||◌, ◌==◌, nat_eq, List, [], ◌∷◌, Option, Some, None, if◌then◌else◌}
 use Rattle.std.specs.Int.{from_be_bytes, w32}
 use Rattle.std.specs.List.{list_any}
 use Rattle.std.specs.Map.{lookup}
 use Rattle.std.specs.Option.{option_or}
 use Rattle.kd_config.specs.Configuration.{Configuration}
+use Rattle.kd_config.specs.declared.reservation.IdentityKind.{IdentityKind}
+use Rattle.kd_config.specs.declared.reservation.IdentityKind.TheVariants as kinds
 use Rattle.kd_options.specs.Joined.{value_of}
 use Rattle.kd_options.specs.Message.{Seen, mac_of}
 use Rattle.kd_options.specs.RelayWalk.{relay_list}
@@ -70,6 +73,23 @@ named_server m = address_of_value (value_of 54 m.options)
 -- the link that a relay selects for its client: sub-option 5 of option 82, if it has four bytes
 abbrev pub selected_link : Seen → Option ℕ
 selected_link m = address_of_value (lookup (nat_eq 5) (relay_list m.options))
+
+-- the DUID in a client identifier (RFC 4361 section 6.1): what follows its type, 255, and four bytes
+-- of an identity association, unless that is nothing
+abbrev pub duid_in : Option (List ℕ) → Option (List ℕ)
+duid_in (Some (type ∷ a ∷ b ∷ c ∷ d ∷ e ∷ bytes)) = if type == 255 then Some (e ∷ bytes) else None
+duid_in other = None
+
+-- the circuit that a message comes from: sub-option 1 of option 82, if a relay passed it on
+abbrev pub circuit_of : Seen → Option (List ℕ)
+circuit_of m = if m.header.giaddr == 0 then None else lookup (nat_eq 1) (relay_list m.options)
+
+-- what a message says of its client by a kind of identity
+abbrev pub client_bytes : Seen → IdentityKind → Option (List ℕ)
+client_bytes m kinds.Hardware = Some (mac_of m.header)
+client_bytes m kinds.Duid = duid_in (value_of 61 m.options)
+client_bytes m kinds.Circuit = circuit_of m
+client_bytes m kinds.ClientId = value_of 61 m.options
 
 -- a code is asked for: option 55 lists it, or is absent
 abbrev pub is_asked_in : ℕ → Option (List ℕ) → Bool

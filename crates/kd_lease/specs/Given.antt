@@ -16,7 +16,7 @@ use Rattle.kd_config.specs.declared.reservation.Reservation.{Reservation}
 use Rattle.kd_config.specs.declared.subnet.Subnet.{Subnet}
 use Rattle.kd_machine.specs.Parts.{is_held}
 use Rattle.kd_options.specs.Message.{Seen}
-use Rattle.kd_lease.specs.Choice.{client_reservation}
+use Rattle.kd_lease.specs.Kept.{reservation_at}
 use Rattle.kd_lease.specs.Client.{wants_option}
 use Rattle.kd_lease.specs.Plan.{ReplyOption}
 
@@ -25,9 +25,9 @@ abbrev pub options_reserved : Option Reservation → List OptionData
 options_reserved None = []
 options_reserved (Some reservation) = reservation.options
 
--- the options of the first reservation of a subnet that is for the client of a message
-abbrev pub reserved_options : Seen → Subnet → List OptionData
-reserved_options m s = options_reserved (client_reservation m s)
+-- the options of the reservation that counts for the reply to a message with an address
+abbrev pub reserved_options : Configuration → Seen → Subnet → ℕ → List OptionData
+reserved_options config m s a = options_reserved (reservation_at config m s a)
 
 -- the options of a pool, if there is one
 abbrev pub options_in : Option Pool → List OptionData
@@ -57,7 +57,7 @@ mask_option prefix = record { code = 1; value = prefix_mask prefix; always = fal
 -- those of the part of its shared network that has the address
 unfoldable pub given : Configuration → Subnet → List (List ℕ) → Seen → ℕ → List OptionData
 given config subnet names m address =
-    reserved_options m subnet ++ options_of_pool subnet.pools address
+    reserved_options config m subnet address ++ options_of_pool subnet.pools address
     ++ (part_holding config.subnets subnet address).options
     ++ (part_holding config.subnets subnet address).shared
     ++ class_options config.classes names ++ config.options

@@ -1,11 +1,16 @@
--- The lease that a client keeps as it renews it, whatever its classes (our own choice). A renewal
--- is sent to the server alone (RFC 2131 section 4.4.5), so no relay adds to it what the client's
--- classes were chosen by (RFC 3046).
+-- The lease that a client keeps as it renews it, whatever its classes and its circuit (our own
+-- choice). A renewal is sent to the server alone (RFC 2131 section 4.4.5), so no relay adds to it what
+-- the client's classes and its reservation were chosen by (RFC 3046).
 use Rattle.std.specs.Prelude.{ℕ, Bool, true, false, ◌&&◌, ◌||◌, ◌==◌, List, Option, Some, None, is_none, option_map, if◌then◌else◌}
 use Rattle.std.specs.List.{find}
+use Rattle.std.specs.Option.{option_or}
 use Rattle.kd_config.specs.Address.{has_address}
 use Rattle.kd_config.specs.Configuration.{Configuration}
 use Rattle.kd_config.specs.Networks.{home_of}
+use Rattle.kd_config.specs.Reservation.{has_reserved}
+use Rattle.kd_config.specs.declared.reservation.Identity.{Identity}
+use Rattle.kd_config.specs.declared.reservation.Identity.TheVariants as clients
+use Rattle.kd_config.specs.declared.reservation.Reservation.{Reservation}
 use Rattle.kd_config.specs.declared.subnet.Subnet.{Subnet}
 use Rattle.kd_options.specs.Kind.{type_number}
 use Rattle.kd_options.specs.Message.{Seen}
@@ -14,7 +19,7 @@ use Rattle.kd_rows.specs.Table.{belongs_to, row_at}
 use Rattle.kd_rows.specs.declared.row.Row.{Row}
 use Rattle.kd_rows.specs.declared.row.State.{State}
 use Rattle.kd_rows.specs.declared.row.State.TheVariants as states
-use Rattle.kd_lease.specs.Choice.{contained, has_such, live_row, reserved_in}
+use Rattle.kd_lease.specs.Choice.{client_reservation, contained, has_such, live_row, reserved_in}
 use Rattle.kd_lease.specs.Client.{kind_of, named_server}
 
 -- the state is that of a lease
@@ -44,6 +49,35 @@ renews_lease rows m now client =
     kind_of m == type_number types.Request
     && (is_none (named_server m)
     && (m.header.giaddr == 0 && passes (is_leased_in rows now client) (ciaddr_in m)))
+
+-- a client is known by its circuit
+abbrev pub is_behind_circuit : Identity → Bool
+is_behind_circuit (clients.Circuit bytes) = true
+is_behind_circuit other = false
+
+-- a reservation, if there is one and it is for a circuit
+abbrev pub if_for_circuit : Option Reservation → Option Reservation
+if_for_circuit None = None
+if_for_circuit (Some reservation) =
+    if is_behind_circuit reservation.identity then Some reservation else None
+
+-- the reservation of an address in a subnet, if it is for a circuit
+abbrev pub circuit_reservation : Subnet → ℕ → Option Reservation
+circuit_reservation s a = if_for_circuit (find (has_reserved a) s.reservations)
+
+-- a message renews this address without a relay: it is a REQUEST that names no server and came
+-- through no relay, and its client has the address
+abbrev pub renews_alone : Seen → ℕ → Bool
+renews_alone m a =
+    kind_of m == type_number types.Request
+    && (is_none (named_server m) && (m.header.giaddr == 0 && m.header.ciaddr == a))
+
+-- the reservation that counts for the reply to a message with an address: that for its client, or
+-- else, for a renewal without a relay where leases are kept, that of the address for a circuit
+abbrev pub reservation_at : Configuration → Seen → Subnet → ℕ → Option Reservation
+reservation_at config m s a =
+    option_or (client_reservation config m s)
+    (if config.extensions.keeps_leases && renews_alone m a then circuit_reservation s a else None)
 
 -- a subnet has an address to keep: its prefix does, and a pool contains it, or it is reserved
 abbrev pub has_to_keep : ℕ → Subnet → Bool

@@ -5,6 +5,7 @@
 use Rattle.std.specs.Prelude.{◌≡◌, ℕ, ◌+◌, Bool, true, false, not, ◌&&◌, ◌||◌, ◌==◌, List, [], ◌∷◌, Option, Some, None, IsSomeAnd, is_some, option_map, if◌then◌else◌}
 use Rattle.std.specs.List.{find, list_any}
 use Rattle.std.specs.Option.{option_or}
+use Rattle.kd_config.specs.Configuration.{Configuration}
 use Rattle.kd_config.specs.Networks.{covers}
 use Rattle.kd_config.specs.declared.subnet.Subnet.{Subnet}
 use Rattle.kd_event.specs.declared.reason.Reason.{Reason}
@@ -20,7 +21,7 @@ use Rattle.kd_rows.specs.declared.row.State.{State}
 use Rattle.kd_rows.specs.declared.row.State.TheVariants as states
 use Rattle.kd_lease.specs.Choice.{Asking, Choice, NoChoice, contained, fitting_for, free_for, has_such, held_row, live_row, reserved_anywhere, set_later}
 use Rattle.kd_lease.specs.Client.{kind_of, named_server, requested_address}
-use Rattle.kd_lease.specs.Kept.{ciaddr_in, is_leased_in, kept_in, passes}
+use Rattle.kd_lease.specs.Kept.{ciaddr_in, is_leased_in, kept_in, passes, circuit_reservation}
 use Rattle.kd_lease.specs.Plan.{Outcome}
 use Rattle.kd_lease.specs.Plan.Outcome.{planned, quiet}
 use Rattle.kd_lease.specs.SubnetOf.{subnet_serving}
@@ -132,12 +133,16 @@ abbrev pub serving_subnet : Asking → Option Subnet
 serving_subnet q =
     option_or (kept_subnet q) (subnet_serving q.config q.names q.message)
 
--- an address may be renewed in a subnet: it fits, or the client keeps its lease, a pool contains
--- the address, for whichever class, and it is not reserved
+-- a lease of an address that its client keeps may last: a pool contains the address, for whichever
+-- class, and it is not reserved; or it is reserved for a circuit
+abbrev pub may_last : Configuration → Subnet → ℕ → Bool
+may_last config s a =
+    (contained s a && not (reserved_anywhere config a)) || is_some (circuit_reservation s a)
+
+-- an address may be renewed in a subnet: it fits, or the client keeps its lease and that may last
 abbrev pub lasting_for : Asking → Subnet → ℕ → Bool
 lasting_for q s a =
-    fitting_for q s a
-    || (is_some (kept_subnet q) && (contained s a && not (reserved_anywhere q.config a)))
+    fitting_for q s a || (is_some (kept_subnet q) && may_last q.config s a)
 
 -- the client may renew its lease of an address: the row is the client's, and the address may be
 -- renewed

@@ -1,13 +1,14 @@
 ghost use Rattle.std.specs.Prelude.{◌≡◌, ◌∷◌, []};
+ghost use Rattle.std.specs.Option.{option_copied};
 ghost use Rattle.kd_classes.specs.Boot.{first_boot};
-ghost use Rattle.kd_lease.specs.Booting.{boots_given, class_boots, fields_in, fields_of, reply_fields, reserved_boots};
+ghost use Rattle.kd_lease.specs.Booting.{boots_given, class_boots, fields_in, boots_reserved, fields_of, reply_fields};
 ghost use Rattle.kd_lease.specs.Rules.{asking, serving_subnet};
 
 use crate::plan::PlanKind;
 use crate::question::Question;
-use crate::reservation::reservation_of;
+use crate::reservation::reservation_for;
 use kd_classes::{Boot, ClassDef, Classes};
-use kd_config::{Config, Subnet};
+use kd_config::{Config, Reservation, Subnet};
 use kd_machine::Held;
 use kd_options::Message;
 
@@ -77,16 +78,16 @@ pub fn boot_given(
     ensures { result
         ≡ first_boot (boots_given config.now subnet.now names.now message.now address) }
 {
-    reservation_boot(message, subnet)
+    boot_of_host(reservation_for(config, message, subnet, address))
         .or(class_boot(config.classes(), names))
         .or(config.boot_at(subnet, address))
 }
 
-// Returns what the reservation for the client of a message gives.
-fn reservation_boot(message: &Message<'_>, subnet: &Subnet) -> Boot
-    ensures { result ≡ first_boot (reserved_boots message.now subnet.now) }
+// Returns what a reservation gives, if there is one.
+fn boot_of_host(reservation: Option<&Reservation>) -> Boot
+    ensures { result ≡ first_boot (boots_reserved (option_copied reservation.entry)) }
 {
-    match reservation_of(message, subnet) {
+    match reservation {
         Some(reservation) => first_of(reservation.boots.as_slice()),
         None => Boot::none(),
     }

@@ -3,14 +3,14 @@ ghost use Rattle.std.specs.Option.{option_copied};
 ghost use Rattle.kd_rows.specs.Table.{belongs_to};
 ghost use Rattle.kd_lease.specs.Choice.{contained, fitting_for, pool_gives, pooled, same_address, free_for, held_row, holding_state, own_row, past_row, usable, freed_by};
 ghost use Rattle.kd_lease.specs.Client.{address_of_value, requested_address};
-ghost use Rattle.kd_lease.specs.Rules.{asking, lasting_for};
+ghost use Rattle.kd_lease.specs.Rules.{asking, lasting_for, may_last};
 ghost use Rattle.kd_lease.specs.Seeking.{common_in, fitting_with};
 
 use crate::candidates::Choosing;
 use crate::question::Question;
-use crate::reservation::{is_reserved, reserved_address};
+use crate::reservation::{is_reserved, of_circuit, reserved_address};
 use crate::subnet::admits;
-use kd_config::{Pool, Subnet};
+use kd_config::{Config, Pool, Subnet};
 use kd_machine::Held;
 use kd_options::Message;
 use kd_options::codes::OPTION_REQUESTED_ADDRESS;
@@ -22,17 +22,28 @@ pub fn fits(question: &Question<'_>, subnet: &Subnet, address: u32) -> bool
     ensures { result ≡ fitting_for (asking question.now) subnet.now address }
 {
     is_common(question, subnet, address)
-        || is_address(reserved_address(question.message, subnet), address)
+        || is_address(
+            reserved_address(question.config, question.message, subnet),
+            address,
+        )
 }
 
-// Reports whether an address may be renewed in a subnet: it fits, or the client keeps its lease, a
-// pool contains the address, for whichever class, and it is not reserved.
+// Reports whether an address may be renewed in a subnet: it fits, or the client keeps its lease and
+// that may last.
 pub(crate) fn lasts(question: &Question<'_>, subnet: &Subnet, address: u32) -> bool
     ensures { result ≡ lasting_for (asking question.now) subnet.now address }
 {
     fits(question, subnet, address)
-        || (question.kept.is_some()
-            && (contains(subnet, address) && !is_reserved(question.config, address)))
+        || (question.kept.is_some() && is_to_last(question.config, subnet, address))
+}
+
+// Reports whether a lease of an address that its client keeps may last: a pool contains the address,
+// for whichever class, and it is not reserved; or it is reserved for a circuit.
+fn is_to_last(config: &Config, subnet: &Subnet, address: u32) -> bool
+    ensures { result ≡ may_last config.now subnet.now address }
+{
+    (contains(subnet, address) && !is_reserved(config, address))
+        || of_circuit(subnet, address).is_some()
 }
 
 // Reports whether an address fits, by the address that is reserved for the client.

@@ -1,7 +1,7 @@
 ghost use Rattle.std.specs.Prelude.{◌≡◌, ◌||◌, ◌++◌, ◌∷◌, [], IfOk, List, OnOk, Some, map};
 ghost use Rattle.kd_classes.specs.declared.option_list.OptionData.{OptionData};
 ghost use Rattle.kd_lease.specs.Client.{wants_option};
-ghost use Rattle.kd_lease.specs.Given.{class_options, configured, configured_options, given, options_of_pool, prefix_mask, reserved_options};
+ghost use Rattle.kd_lease.specs.Given.{class_options, configured, configured_options, given, options_of_pool, prefix_mask};
 ghost use Rattle.kd_lease.specs.Plan.{option_of_item};
 ghost use Rattle.kd_lease.specs.Valuing.{HasValues, HaveCodes};
 ghost use Rattle.kd_wire.specs.Area.{IsCode};
@@ -11,7 +11,7 @@ use crate::reply::put_optional;
 use crate::reservation::reservation_options;
 use crate::subnet::pool_options;
 use crate::values::{Coded, Values};
-use kd_classes::{ClassDef, Classes};
+use kd_classes::{ClassDef, Classes, OptionData};
 use kd_config::{Config, Prefix, Subnet};
 use kd_machine::Held;
 use kd_options::{Item, Message};
@@ -35,29 +35,29 @@ pub(crate) fn put_given(
 {
     let part = config.member_with(subnet, address);
     let mask = mask_of(part.prefix);
-    let mut values = subnet_values(alloc, subnet, part, message, address)?;
+    let host = reservation_options(config, message, subnet, address);
+    let mut values = subnet_values(alloc, host, subnet, part, address)?;
     put_class_options(&mut values, config.classes(), names)?;
     values.put_all(config.options())?;
     values.put(1, &mask, false)?;
     put_values(alloc, list, message, &values)
 }
 
-// Returns the values that a subnet gives to the client of a message at an address, where a part of its
-// shared network, or itself, has the address: those of the client's reservation, of the pool, of the
-// part and of the network.
+// Returns the values that a subnet gives at an address, where a part of its shared network, or itself,
+// has the address: those of a reservation, of the pool, of the part and of the network.
 fn subnet_values<'a>(
     alloc: Global,
+    host: &'a [OptionData],
     subnet: &'a Subnet,
     part: &'a Subnet,
-    message: &Message<'_>,
     address: u32,
 ) -> Result<Values<'a>, AllocError>
     ensures { IfOk result (λ values. HasValues values.list.items
-        (reserved_options message.now subnet.now ++ options_of_pool subnet.now.pools address
-        ++ part.now.options ++ part.now.shared)) }
+        (host.now ++ options_of_pool subnet.now.pools address ++ part.now.options
+        ++ part.now.shared)) }
 {
     let mut values = Values::new(alloc);
-    values.put_all(reservation_options(message, subnet))?;
+    values.put_all(host)?;
     values.put_all(pool_options(subnet, address))?;
     values.put_all(part.options.as_slice())?;
     values.put_all(part.shared.as_slice())?;

@@ -4,7 +4,7 @@ ghost use Rattle.std.specs.Option.{option_copied};
 ghost use Rattle.kd_lease.specs.Client.{kind_of};
 ghost use Rattle.kd_config.specs.Networks.{home_of};
 ghost use Rattle.kd_lease.specs.Keeper.{keeper_in};
-ghost use Rattle.kd_lease.specs.Kept.{has_to_keep, is_leased_in, kept_in, passes, renews_lease};
+ghost use Rattle.kd_lease.specs.Kept.{has_to_keep, is_leased_in, kept_in, passes, renews_alone, renews_lease};
 ghost use Rattle.kd_options.specs.Kind.{type_number};
 ghost use Rattle.kd_options.specs.declared.kind.MessageType.TheVariants as types;
 
@@ -75,6 +75,15 @@ fn renews(rows: &Rows, message: &Message<'_>, client: &[u8], moment: u64) -> boo
         && (server_of(message).is_none()
             && (message.header().giaddr == 0
                 && is_leased_to(rows, client, moment, ciaddr_of(message))))
+}
+
+// Reports whether a message renews an address without a relay.
+pub(crate) fn is_renewed_alone(message: &Message<'_>, address: u32) -> bool
+    ensures { result ≡ renews_alone message.now address }
+{
+    is_request(message)
+        && (server_of(message).is_none()
+            && (message.header().giaddr == 0 && message.header().ciaddr == address))
 }
 
 // Reports whether a message is a REQUEST.

@@ -64,7 +64,7 @@ pub use plan::{Outline, Plan, PlanKind};
 pub use question::{Question, subnet_or};
 pub use ranks::{Ranks, ranks_of};
 pub use recipient::destination;
-pub use reservation::{is_reserved, reservation_of, reservation_options};
+pub use reservation::{is_reserved, reservation_for, reservation_of, reservation_options};
 pub use rule::{Check, Ending, Line, Rule};
 pub use search::{is_client_at, is_held_at, knows_client};
 pub use server::{renewed_of, server_of};

@@ -1,5 +1,6 @@
 ghost use Rattle.std.specs.Prelude.{◌≡◌, ◌++◌, IfOk, OnOk};
 ghost use Rattle.std.specs.List.{All};
+ghost use Rattle.kd_config.specs.Reservation.{listed};
 ghost use Rattle.kd_config.specs.Rules.{reserved};
 ghost use Rattle.kd_rows.specs.Row.{IsInRange};
 ghost use Rattle.kd_rows.specs.Table.{Rise, least_of};
@@ -66,7 +67,18 @@ fn put_reserved(addresses: &mut Vec<u32>, reservations: &[Reservation]) -> Resul
         (addresses.new.items ≡ addresses.old.items ++ reserved reservations.now) }
 {
     for reservation in reservations {
-        addresses.push(reservation.address)?;
+        put_listed(addresses, reservation.address)?;
+    }
+    Ok(())
+}
+
+// Appends an address, if there is one.
+fn put_listed(addresses: &mut Vec<u32>, address: Option<u32>) -> Result<(), AllocError>
+    ensures { OnOk result (addresses.new.items ≡ addresses.old.items ++ listed address) }
+{
+    match address {
+        Some(address) => addresses.push(address)?,
+        None => {}
     }
     Ok(())
 }

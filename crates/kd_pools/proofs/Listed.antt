@@ -1,5 +1,5 @@
 -- Addresses in an ascending list, and those that subnets reserve.
-use Rattle.std.proofs.Common.{◌≡◌, ◌≢◌, ℕ, ◌<◌, ◌≤◌, ◌==◌, ◌||◌, ◌⊎◌, inl, inr, List, [], ◌∷◌, map, length, get_or, nat_eq, true, false, refl, sym, ap, ◌∙◌, arith}
+use Rattle.std.proofs.Common.{◌≡◌, ◌≢◌, ℕ, ◌<◌, ◌≤◌, ◌==◌, ◌||◌, ◌⊎◌, inl, inr, List, [], ◌∷◌, ◌++◌, Option, None, Some, length, get_or, nat_eq, true, false, refl, sym, ap, ◌∙◌, arith}
 use Rattle.std.specs.List.{list_any}
 use Rattle.std.specs.List.Sorted.{IsNonDecreasing}
 use Rattle.std.proofs.lemmas.Bool.{cases_lt}
@@ -7,14 +7,19 @@ use Rattle.std.proofs.lemmas.Bool.Decides.{eqb_tells}
 use Rattle.std.proofs.lemmas.List.Folds.{list_any-append, list_any_at}
 use Rattle.std.proofs.lemmas.List.Recursion.{or_from_places}
 use Rattle.kd_config.specs.Configuration.{Configuration}
+use Rattle.kd_config.specs.Reservation.{has_reserved, listed, same_address}
+use Rattle.kd_config.specs.Rules.{reserved}
 use Rattle.kd_config.specs.declared.reservation.Reservation.{Reservation}
 use Rattle.kd_config.specs.declared.subnet.Subnet.{Subnet}
 use Rattle.kd_lease.specs.Choice.{reserved_anywhere, reserved_in}
 use Rattle.kd_pools.specs.Walking.{IsPlaceFor, subnets_reserved, is_listed, subnet_reserved}
 
-in_subnet : (a : ℕ) (rs : List Reservation) → is_listed (map (λ r. r.address) rs) a ≡ list_any (λ r. r.address == a) rs
+in_subnet : (a : ℕ) (rs : List Reservation) → is_listed (reserved rs) a ≡ list_any (has_reserved a) rs
 in_subnet a [] = refl
-in_subnet a (r ∷ rs) = ap (λ b. (r.address == a) || b) (in_subnet a rs)
+in_subnet a (r ∷ rs) = by r.address (in_subnet a rs) where
+  by : (o : Option ℕ) → is_listed (reserved rs) a ≡ list_any (has_reserved a) rs → is_listed (listed o ++ reserved rs) a ≡ (same_address o a || list_any (has_reserved a) rs)
+  by None h = h
+  by (Some b) h = ap (λ t. (b == a) || t) h
 
 in_subnets : (a : ℕ) (subnets : List Subnet) → is_listed (subnets_reserved subnets) a ≡ list_any (reserved_in a) subnets
 in_subnets a [] = refl

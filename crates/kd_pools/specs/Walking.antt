@@ -1,8 +1,9 @@
 -- Helpers of private contracts only: addresses in a list, the counts of one address, and sums of
 -- counts.
-use Rattle.std.specs.Prelude.{ℕ, ◌+◌, ◌<◌, ◌≤◌, Bool, not, ◌&&◌, ◌||◌, ◌==◌, is_none, List, length, map, Option, slice_index, if◌then◌else◌}
+use Rattle.std.specs.Prelude.{ℕ, ◌+◌, ◌<◌, ◌≤◌, Bool, not, ◌&&◌, ◌||◌, ◌==◌, is_none, List, length, Option, slice_index, if◌then◌else◌}
 use Rattle.std.specs.Int.{from_bool}
 use Rattle.std.specs.List.{AllByRecursion, flat_map, list_any}
+use Rattle.kd_config.specs.Rules.{reserved}
 use Rattle.kd_config.specs.declared.subnet.Subnet.{Subnet}
 use Rattle.kd_lease.specs.Choice.{has_such, live_row}
 use Rattle.kd_lease.specs.Kept.{bound_state}
@@ -18,7 +19,7 @@ is_listed list a = list_any (λ b. b == a) list
 
 -- the addresses that a subnet reserves
 abbrev pub subnet_reserved : Subnet → List ℕ
-subnet_reserved subnet = map (λ reservation. reservation.address) subnet.reservations
+subnet_reserved subnet = reserved subnet.reservations
 
 -- the addresses that subnets reserve, in the order of the configuration
 abbrev pub subnets_reserved : List Subnet → List ℕ

@@ -1,5 +1,6 @@
 ghost use Rattle.std.specs.Prelude.{◌≡◌, ◌++◌, ℕ, IfOk, OnOk};
 ghost use Rattle.std.specs.List.Sorted.{IsNonDecreasing};
+ghost use Rattle.kd_config.specs.Reservation.{listed};
 ghost use Rattle.kd_lease.specs.Choice.{reserved_anywhere};
 ghost use Rattle.kd_pools.specs.Walking.{PassesBelow, IsPlaceFor, subnets_reserved, is_listed, subnet_reserved};
 
@@ -33,7 +34,18 @@ fn push_reserved(list: &mut Vec<u32>, subnet: &Subnet) -> Result<(), AllocError>
     ensures { OnOk result (list.new.items ≡ list.old.items ++ subnet_reserved subnet.now) }
 {
     for reservation in subnet.reservations.as_slice() {
-        list.push(reservation.address)?;
+        push_listed(list, reservation.address)?;
+    }
+    Ok(())
+}
+
+// Appends an address to a list, if there is one.
+fn push_listed(list: &mut Vec<u32>, address: Option<u32>) -> Result<(), AllocError>
+    ensures { OnOk result (list.new.items ≡ list.old.items ++ listed address) }
+{
+    match address {
+        Some(address) => list.push(address)?,
+        None => {}
     }
     Ok(())
 }

@@ -1,5 +1,5 @@
 use Rattle.std.proofs.Common.{◌≡◌, ◌++◌, ap, subst}
-use Rattle.kd_lease.specs.Given.{class_options, given, options_of_pool, reserved_options}
+use Rattle.kd_lease.specs.Given.{class_options, given, options_of_pool}
 use Rattle.kd_lease.specs.Valuing.{HasValues}
 use Rattle.kd_lease.proofs.Giving.{all_given}
 use Rattle.kd_lease.proofs.given.put_given.Goals as goal
@@ -7,7 +7,7 @@ use Rattle.kd_lease.proofs.given.put_given.Goals as goal
 pub put_values-requires : goal.put_values-requires
 put_values-requires c =
     let subnet = c.args.subnet.now in
-    let near = reserved_options c.args.message.now subnet ++ options_of_pool subnet.pools c.args.address ++ c.member_with-part.result.now.options ++ c.member_with-part.result.now.shared in
+    let near = c.reservation_options-host.result.now ++ options_of_pool subnet.pools c.args.address ++ c.member_with-part.result.now.options ++ c.member_with-part.result.now.shared in
     let classes = class_options c.classes.result.now c.args.names.now in
     let one = c.in_ok-values.ensures in
     let two = c.in_ok-put_class_options.ensures near one in
@@ -23,7 +23,7 @@ returns c =
     let m = c.args.message.now in
     let address = c.args.address in
     let part = c.member_with-part.result.now in
-    let near = reserved_options m subnet ++ options_of_pool subnet.pools address ++ part.options ++ part.shared in
+    let near = c.reservation_options-host.result.now ++ options_of_pool subnet.pools address ++ part.options ++ part.shared in
     let classes = class_options c.classes.result.now names in
     let all = c.options.result.now in
     let one = c.in_ok-values.ensures in
@@ -34,4 +34,4 @@ returns c =
     c.put_values.ensures
     (given config subnet names m address)
     (subst (λ options. HasValues c.put.new.self.list.items options)
-    (all_given config subnet part names m address classes all c.mask_of-mask.result c.member_with-part.ensures held c.options.ensures.same c.mask_of-mask.ensures) four)
+    (all_given config subnet part names m address c.reservation_options-host.result.now classes all c.mask_of-mask.result c.reservation_options-host.ensures c.member_with-part.ensures held c.options.ensures.same c.mask_of-mask.ensures) four)
