@@ -1,22 +1,25 @@
 -- The address that a reply assigns has 32 bits: it is of a pool or a reservation of the subnet in
 -- which the message is served.
-use Rattle.std.proofs.Common.{◌≡◌, ℕ, ◌^◌, ◌<◌, Bool, true, false, not, ◌&&◌, ◌||◌, nat_le, List, [], ◌∷◌, Option, None, Some, ⊎_elim, ◌⊎◌, inl, inr, sym, subst, arith, is_none, is_some}
-use Rattle.std.specs.Prelude.{IfSome, IsSomeAnd, option_map}
-use Rattle.std.specs.List.{AllByRecursion, list_any}
+use Rattle.std.proofs.Common.{◌≡◌, ℕ, ◌^◌, ◌<◌, Bool, true, false, not, ◌&&◌, ◌||◌, nat_le, List, [], ◌∷◌, Option, None, Some, ⊎_elim, ◌⊎◌, inl, inr, refl, sym, subst, arith, is_none, is_some}
+use Rattle.std.specs.Prelude.{IfSome, IsSomeAnd, option_and_then}
+use Rattle.std.specs.List.{AllByRecursion, find, list_any}
 use Rattle.std.proofs.lemmas.Bool.{and_parts, eqb-true, false≢true, leb-true, or_cases}
 use Rattle.kd_config.specs.Apart.{has}
+use Rattle.kd_config.specs.Reservation.{has_reserved}
 use Rattle.kd_config.specs.Sound.{IsSound}
 use Rattle.kd_config.specs.declared.pool.Pool.{Pool}
 use Rattle.kd_config.specs.declared.reservation.Reservation.{Reservation}
 use Rattle.kd_config.specs.declared.subnet.Subnet.{Subnet}
 use Rattle.kd_event.specs.declared.reason.Reason.{Reason}
-use Rattle.kd_lease.specs.Choice.{Asking, Rank, address_reserved, client_reservation, contained, fitting_for, free_for, has_rank, has_such, held_row, is_from, live_row, past_row, pool_gives, pooled, reserved_anywhere, same_address, usable}
+use Rattle.kd_lease.specs.Choice.{Asking, Rank, address_reserved, client_reservation, contained, fitting_for, free_for, has_rank, has_such, held_row, live_row, past_row, pool_gives, pooled, reserved_anywhere, same_address, usable}
 use Rattle.kd_lease.specs.Choice.Rank.{reserved as reserved_rank, own, past, asked, fresh, expired}
+use Rattle.kd_lease.proofs.Homes.{found_passes}
+use Rattle.kd_lease.specs.Kept.{circuit_reservation, if_for_circuit}
 use Rattle.kd_lease.specs.Laws.{EndsAreFounded, IsFounded}
 use Rattle.kd_lease.specs.Plan.{Content, Outcome}
 use Rattle.kd_lease.specs.Plan.Outcome.{planned, quiet}
 use Rattle.kd_lease.specs.Client.{requested_address}
-use Rattle.kd_lease.specs.Rules.{Does, IsReplyOf, IsSilent, Makes, client_has, declined_row, ending, kept_subnet, lasting_for, released_row, renewable, rule_of, serving_subnet}
+use Rattle.kd_lease.specs.Rules.{Does, IsReplyOf, IsSilent, Makes, client_has, declined_row, ending, kept_subnet, lasting_for, may_last, released_row, renewable, rule_of, serving_subnet}
 use Rattle.kd_lease.specs.SubnetOf.{class_admits}
 use Rattle.kd_lease.specs.declared.plan.PlanKind.{PlanKind}
 use Rattle.kd_lease.specs.declared.plan.PlanKind.TheVariants as kinds
@@ -26,6 +29,7 @@ use Rattle.kd_options.specs.declared.kind.MessageType.{MessageType}
 use Rattle.kd_rows.specs.Table.{row_at}
 use Rattle.kd_rows.specs.declared.row.Row.{Row}
 use Rattle.kd_laws.proofs.Homes.{Serves, ServesClient, ServesPool, find-each, serving_serves}
+use Rattle.kd_laws.proofs.Hosts.{client_each}
 
 -- an address of some pool of several has 32 bits
 pools_32 : (names : List (List ℕ)) (pools : List Pool) (a : ℕ) → AllByRecursion ServesPool pools → list_any (λ pool. pool_gives names pool a) pools ≡ true → a < 2 ^ 32
@@ -50,27 +54,42 @@ contained_32 (pool ∷ pools) a each inside =
           omega (arith, last, below)
 
 -- so has an address that is reserved
-same_32 : (r : Option Reservation) (a : ℕ) → IfSome r ServesClient → same_address (option_map (λ x. x.address) r) a ≡ true → a < 2 ^ 32
+client_32 : (r : Reservation) (a : ℕ) → ServesClient r → same_address r.address a ≡ true → a < 2 ^ 32
+client_32 r a is same = by r.address refl same where
+  by : (o : Option ℕ) → r.address ≡ o → same_address o a ≡ true → a < 2 ^ 32
+  by None e h = absurd (false≢true h)
+  by (Some b) e h = subst (λ (c : ℕ). c < 2 ^ 32) (eqb-true b a h) (is.address b e)
+
+same_32 : (r : Option Reservation) (a : ℕ) → IfSome r ServesClient → same_address (option_and_then (λ x. x.address) r) a ≡ true → a < 2 ^ 32
 same_32 None a is same = absurd (false≢true same)
-same_32 (Some r) a is same = subst (λ (b : ℕ). b < 2 ^ 32) (eqb-true r.address a same) is.address
+same_32 (Some r) a is same = client_32 r a is same
+
+-- so has one that is reserved for a circuit
+circuit_32 : (rs : List Reservation) (a : ℕ) → AllByRecursion ServesClient rs → is_some (if_for_circuit (find (has_reserved a) rs)) ≡ true → a < 2 ^ 32
+circuit_32 rs a each there = by (find (has_reserved a) rs) refl (find-each ServesClient (has_reserved a) rs each) there where
+  by : (o : Option Reservation) → find (has_reserved a) rs ≡ o → IfSome o ServesClient → is_some (if_for_circuit o) ≡ true → a < 2 ^ 32
+  by None e is h = absurd (false≢true h)
+  by (Some r) e is h = client_32 r a is (found_passes (has_reserved a) rs r e)
 
 -- an address that fits has 32 bits
 fitting_32 : (q : Asking) (s : Subnet) (a : ℕ) → Serves s → fitting_for q s a ≡ true → a < 2 ^ 32
 fitting_32 q s a is fits =
-    let client = find-each ServesClient (λ r. is_from q.message r.identity) s.reservations is.reservations in
+    let client = client_each ServesClient q.message s is.reservations q.config in
     ⊎_elim
     (λ open_one. pools_32 q.names s.pools a is.pools (and_parts (pooled q.names s a) (not (reserved_anywhere q.config a)) open_one).0)
-    (λ mine. same_32 (client_reservation q.message s) a client mine)
-    (or_cases (pooled q.names s a && not (reserved_anywhere q.config a)) (same_address (address_reserved q.message s) a) fits)
+    (λ mine. same_32 (client_reservation q.config q.message s) a client mine)
+    (or_cases (pooled q.names s a && not (reserved_anywhere q.config a)) (same_address (address_reserved q.config q.message s) a) fits)
 
 -- so has an address that may be renewed
 lasting_32 : (q : Asking) (s : Subnet) (a : ℕ) → Serves s → lasting_for q s a ≡ true → a < 2 ^ 32
 lasting_32 q s a is lasts =
     let free = contained s a && not (reserved_anywhere q.config a) in
+    let circuit = is_some (circuit_reservation s a) in
     ⊎_elim
     (λ fits. fitting_32 q s a is fits)
-    (λ kept. contained_32 s.pools a is.pools (and_parts (contained s a) (not (reserved_anywhere q.config a)) (and_parts (is_some (kept_subnet q)) free kept).1).0)
-    (or_cases (fitting_for q s a) (is_some (kept_subnet q) && free) lasts)
+    (λ kept. ⊎_elim (λ open_one. contained_32 s.pools a is.pools (and_parts (contained s a) (not (reserved_anywhere q.config a)) open_one).0) (circuit_32 s.reservations a is.reservations)
+    (or_cases free circuit (and_parts (is_some (kept_subnet q)) (may_last q.config s a) kept).1))
+    (or_cases (fitting_for q s a) (is_some (kept_subnet q) && may_last q.config s a) lasts)
 
 -- what holds if its second part does
 or_second : (x y : Bool) → y ≡ true → (x || y) ≡ true
@@ -80,7 +99,7 @@ or_second false y is = is
 -- an address that has a rank fits
 ranked_fits : (q : Asking) (s : Subnet) (rank : Rank) (a : ℕ) → has_rank q s rank a ≡ true → fitting_for q s a ≡ true
 ranked_fits q s reserved_rank a h =
-    let own_one = same_address (address_reserved q.message s) a in
+    let own_one = same_address (address_reserved q.config q.message s) a in
     or_second (pooled q.names s a && not (reserved_anywhere q.config a)) own_one (and_parts own_one (free_for q a) h).0
 ranked_fits q s own a h = (and_parts (has_such (held_row q) (row_at q.rows a)) (fitting_for q s a) h).1
 ranked_fits q s past a h = (and_parts (has_such (past_row q) (row_at q.rows a)) (fitting_for q s a) h).1

@@ -97,11 +97,11 @@ unfolding boots_given
 given_sound config s names m address sound is =
     let part = part_holding config.subnets s address in
     let there = part_serves config.subnets (all_serve config.subnets sound.subnets.together sound.subnets.each) s address is in
-    let is_client : Reservation → Bool = λ reservation. is_from m reservation.identity in
-    let reserved = of_reservation (find is_client s.reservations) (find-each ServesClient is_client s.reservations is.reservations) in
+    let host = reservation_at config m s address in
+    let reserved = of_reservation host (counting_each ServesClient m s is.reservations config address) in
     let held = of_classes IsBoot config.classes names (classes_sound config.classes sound.classes.each) in
-    each-append IsBoot (boots_reserved (find is_client s.reservations) ++ class_boots config.classes names) (part.boot ∷ [])
-    (each-append IsBoot (boots_reserved (find is_client s.reservations)) (class_boots config.classes names) reserved held)
+    each-append IsBoot (boots_reserved host ++ class_boots config.classes names) (part.boot ∷ [])
+    (each-append IsBoot (boots_reserved host) (class_boots config.classes names) reserved held)
     (there.boot, tt)
 
 in_sound : (q : Asking) → IsSound q.config → (s : Option Subnet) → IfSome s Serves → (address : ℕ) → AreFields (fields_in q s address)
@@ -150,10 +150,10 @@ unfolding boots_given
 given_nothing config s names m address none is =
     let part = part_holding config.subnets s address in
     let there = at_part IsUnbooted unbooted_network config.subnets none.subnets s address is in
-    let is_client : Reservation → Bool = λ reservation. is_from m reservation.identity in
-    let reserved = none_reserved (find is_client s.reservations) (find-each (λ reservation. reservation.boots ≡ []) is_client s.reservations is.reserved) in
-    each-append IsNothing (boots_reserved (find is_client s.reservations) ++ class_boots config.classes names) (part.boot ∷ [])
-    (each-append IsNothing (boots_reserved (find is_client s.reservations)) (class_boots config.classes names) reserved (of_classes IsNothing config.classes names none.classes))
+    let host = reservation_at config m s address in
+    let reserved = none_reserved host (counting_each (λ reservation. reservation.boots ≡ []) m s is.reserved config address) in
+    each-append IsNothing (boots_reserved host ++ class_boots config.classes names) (part.boot ∷ [])
+    (each-append IsNothing (boots_reserved host) (class_boots config.classes names) reserved (of_classes IsNothing config.classes names none.classes))
     (there.own, tt)
 
 in_nothing : (q : Asking) → GivesNoBoot q.config → (s : Option Subnet) → IfSome s IsUnbooted → (address : ℕ) → fields_in q s address ≡ fields_of no_boot

@@ -63,7 +63,7 @@ pub record ServesPool (pool : Pool) : Type 0 where
 pub record ServesClient (reservation : Reservation) : Type 0 where
   pub options : AreOptions reservation.options
   pub boots : AllByRecursion IsBoot reservation.boots
-  pub address : reservation.address < 2 ^ 32
+  pub address : (a : ℕ) → reservation.address ≡ Some a → a < 2 ^ 32
 
 -- a subnet in which messages are served
 pub record Serves (s : Subnet) : Type 0 where
@@ -93,11 +93,15 @@ clients_serve : (prefix : Prefix) (earlier : List ℕ) (clients : List Identity)
     → IsPrefix prefix → may_all_reserve prefix earlier clients rs ≡ true → AllByRecursion IsReservation rs → AllByRecursion ServesClient rs
 clients_serve prefix earlier clients [] is may each = tt
 clients_serve prefix earlier clients (r ∷ rs) is may each =
-    let more = may_all_reserve prefix (earlier ++ r.address ∷ []) (clients ++ r.identity ∷ []) rs in
-    let parts = and_parts (may_reserve prefix earlier r) (is_new clients r.identity && more) may in
-    let here = and_parts (has_address prefix r.address) (not (list_any (nat_eq r.address) earlier)) parts.0 in (
-      record { options = each.0.options; boots = each.0.boots; address = within_32 prefix r.address is here.0 },
-      clients_serve prefix (earlier ++ r.address ∷ []) (clients ++ r.identity ∷ []) rs is (and_parts (is_new clients r.identity) more parts.1).1 each.1,
+    let more = may_all_reserve prefix (earlier ++ listed r.address) (clients ++ r.identity ∷ []) rs in
+    let parts = and_parts (may_reserve prefix earlier r) (is_new clients r.identity && more) may in (
+      record {
+        options = each.0.options;
+        boots = each.0.boots;
+        address = λ a e. within_32 prefix a is
+            (and_parts (has_address prefix a) (not (list_any (nat_eq a) earlier)) (subst (λ (o : Option ℕ). may_have prefix earlier o ≡ true) e parts.0)).0;
+      },
+      clients_serve prefix (earlier ++ listed r.address) (clients ++ r.identity ∷ []) rs is (and_parts (is_new clients r.identity) more parts.1).1 each.1,
     )
 
 -- a subnet that obeys the rules serves

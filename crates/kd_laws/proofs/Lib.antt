@@ -3,6 +3,7 @@ pub mod Assigned
 pub mod Booted
 pub mod CallsMade
 pub mod Homes
+pub mod Hosts
 pub mod Joined
 pub mod LeasesKept
 pub mod LiveLeases

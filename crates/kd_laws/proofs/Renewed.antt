@@ -3,6 +3,7 @@ use Rattle.std.proofs.Common.{◌≡◌, ℕ, Bool, true, false, not, ◌&&◌, 
 use Rattle.std.specs.List.{find}
 use Rattle.std.specs.Option.{option_or}
 use Rattle.std.proofs.lemmas.Bool.{and_from, and_parts, eqb-true, false≢true, or_cases, or_left, or_right}
+use Rattle.std.proofs.lemmas.Option.{none-some, same_Some}
 use Rattle.kd_config.specs.Address.{has_address}
 use Rattle.kd_config.specs.Networks.{covers, home_of}
 use Rattle.kd_config.specs.declared.subnet.Subnet.{Subnet}
@@ -10,10 +11,10 @@ use Rattle.kd_lease.proofs.Homes.{found, found_passes, home_contains, home_cover
 use Rattle.kd_lease.proofs.Records.{known_there}
 use Rattle.kd_lease.specs.Choice.{Asking, contained, fitting_for, has_such, live_row, reserved_anywhere, reserved_in}
 use Rattle.kd_lease.specs.Client.{kind_of, named_server, requested_address}
-use Rattle.kd_lease.specs.Kept.{bound_state, ciaddr_in, has_to_keep, is_leased_in, passes, renews_lease, subnet_keeping}
+use Rattle.kd_lease.specs.Kept.{bound_state, ciaddr_in, circuit_reservation, has_to_keep, is_leased_in, passes, renews_lease, subnet_keeping}
 use Rattle.kd_lease.specs.Laws.{EndsDecide}
 use Rattle.kd_lease.specs.Plan.{Outcome}
-use Rattle.kd_lease.specs.Rules.{Does, IsAbout, IsReplyOf, Makes, checks_in, client_has, ending, ends_by, fails, holds_at, kept_subnet, known_in, lasting_for, leased_row, other_server, passes_in, rule_by, rule_of, serving_subnet}
+use Rattle.kd_lease.specs.Rules.{Does, IsAbout, IsReplyOf, Makes, checks_in, client_has, ending, ends_by, fails, holds_at, kept_subnet, known_in, lasting_for, leased_row, may_last, other_server, passes_in, rule_by, rule_of, serving_subnet}
 use Rattle.kd_lease.specs.SubnetOf.{subnet_serving}
 use Rattle.kd_lease.specs.declared.plan.PlanKind.TheVariants as kinds
 use Rattle.kd_lease.specs.declared.rule.Check.{Check}
@@ -26,7 +27,7 @@ use Rattle.kd_options.specs.Kind.{type_number}
 use Rattle.kd_options.specs.declared.kind.MessageType.TheVariants as types
 use Rattle.kd_rows.specs.Table.{belongs_to, row_at}
 use Rattle.kd_rows.specs.declared.row.Row.{Row}
-use Rattle.kd_laws.specs.Renewals.{RenewalsAreKept, is_pooled_among}
+use Rattle.kd_laws.specs.Renewals.{CircuitsKeepLeases, RenewalsAreKept, is_pooled_among}
 
 -- ---- the message
 
@@ -58,7 +59,36 @@ unfolding Passed
 none_fails q about [] h = refl
 none_fails q about (line ∷ lines) h = ap (λ (b : Bool). if not b then Some line else find (fails q about) lines) h.0 ∙ none_fails q about lines h.1
 
-module _ (q : Asking) (keeps : q.config.extensions.keeps_leases ≡ true) (renews : renews_lease q.rows q.message q.now q.client ≡ true) (pooled : is_pooled_among q.config.subnets q.message.header.ciaddr ≡ true) (free : reserved_anywhere q.config q.message.header.ciaddr ≡ false) where
+-- ---- the subnet that has the address
+
+-- a subnet has an address that a pool in it contains
+pooled_keeper : (q : Asking) → is_pooled_among q.config.subnets q.message.header.ciaddr ≡ true → (s : Subnet) × (find (has_to_keep q.message.header.ciaddr) q.config.subnets ≡ Some s)
+pooled_keeper q pooled =
+    found (has_to_keep q.message.header.ciaddr) q.config.subnets
+    (weaker (λ s. has_address s.prefix q.message.header.ciaddr && contained s q.message.header.ciaddr) (has_to_keep q.message.header.ciaddr)
+    (λ s h. let parts = and_parts (has_address s.prefix q.message.header.ciaddr) (contained s q.message.header.ciaddr) h in and_from (has_address s.prefix q.message.header.ciaddr) (contained s q.message.header.ciaddr || reserved_in q.message.header.ciaddr s) parts.0 (or_left (contained s q.message.header.ciaddr) (reserved_in q.message.header.ciaddr s) parts.1))
+    q.config.subnets pooled)
+
+-- its prefix does, and a pool or a reservation
+keeper_has : (q : Asking) (s : Subnet) → find (has_to_keep q.message.header.ciaddr) q.config.subnets ≡ Some s
+    → (has_address s.prefix q.message.header.ciaddr ≡ true) × ((contained s q.message.header.ciaddr || reserved_in q.message.header.ciaddr s) ≡ true)
+keeper_has q s there =
+    and_parts (has_address s.prefix q.message.header.ciaddr) (contained s q.message.header.ciaddr || reserved_in q.message.header.ciaddr s) (found_passes (has_to_keep q.message.header.ciaddr) q.config.subnets s there)
+
+-- if the address is not reserved, the lease may last there
+free_lasts : (q : Asking) (s : Subnet) → find (has_to_keep q.message.header.ciaddr) q.config.subnets ≡ Some s → reserved_anywhere q.config q.message.header.ciaddr ≡ false → may_last q.config (home_of q.config.subnets s) q.message.header.ciaddr ≡ true
+free_lasts q s there free =
+    or_left (contained home q.message.header.ciaddr && not (reserved_anywhere q.config q.message.header.ciaddr)) (is_some (circuit_reservation home q.message.header.ciaddr))
+    (and_from (contained home q.message.header.ciaddr) (not (reserved_anywhere q.config q.message.header.ciaddr)) (home_contains q.config.subnets (has_to_keep q.message.header.ciaddr) s q.message.header.ciaddr there in_pool) (ap not free)) where
+      home : Subnet
+      home = home_of q.config.subnets s
+
+      in_pool : contained s q.message.header.ciaddr ≡ true
+      in_pool =
+          ⊎_elim (λ it. it) (λ reserved. absurd (false≢true (sym (none_among (has_to_keep q.message.header.ciaddr) (reserved_in q.message.header.ciaddr) q.config.subnets s there free) ∙ reserved)))
+          (or_cases (contained s q.message.header.ciaddr) (reserved_in q.message.header.ciaddr s) (keeper_has q s there).1)
+
+module _ (q : Asking) (keeps : q.config.extensions.keeps_leases ≡ true) (renews : renews_lease q.rows q.message q.now q.client ≡ true) (first : (s : Subnet) × (find (has_to_keep q.message.header.ciaddr) q.config.subnets ≡ Some s)) (may : may_last q.config (home_of q.config.subnets first.0) q.message.header.ciaddr ≡ true) where
   a : ℕ
   a = q.message.header.ciaddr
 
@@ -78,30 +108,13 @@ module _ (q : Asking) (keeps : q.config.extensions.keeps_leases ≡ true) (renew
   mine : client_has q a ≡ true
   mine = own_row_of q.client q.now (row_at q.rows a) leases.1
 
-  -- the subnet that has the address
-  first : (s : Subnet) × (find (has_to_keep a) q.config.subnets ≡ Some s)
-  unfolding a
-  first =
-      found (has_to_keep q.message.header.ciaddr) q.config.subnets
-      (weaker (λ s. has_address s.prefix q.message.header.ciaddr && contained s q.message.header.ciaddr) (has_to_keep q.message.header.ciaddr)
-      (λ s h. let parts = and_parts (has_address s.prefix q.message.header.ciaddr) (contained s q.message.header.ciaddr) h in and_from (has_address s.prefix q.message.header.ciaddr) (contained s q.message.header.ciaddr || reserved_in q.message.header.ciaddr s) parts.0 (or_left (contained s q.message.header.ciaddr) (reserved_in q.message.header.ciaddr s) parts.1))
-      q.config.subnets pooled)
-
-  parts : (has_address first.0.prefix a ≡ true) × ((contained first.0 a || reserved_in a first.0) ≡ true)
-  parts = and_parts (has_address first.0.prefix a) (contained first.0 a || reserved_in a first.0) (found_passes (has_to_keep a) q.config.subnets first.0 first.1)
-
-  in_pool : contained first.0 a ≡ true
-  unfolding a
-  in_pool =
-      ⊎_elim (λ it. it) (λ reserved. absurd (false≢true (sym (none_among (has_to_keep q.message.header.ciaddr) (reserved_in q.message.header.ciaddr) q.config.subnets first.0 first.1 free) ∙ reserved)))
-      (or_cases (contained first.0 q.message.header.ciaddr) (reserved_in q.message.header.ciaddr first.0) parts.1)
-
+  -- the home of the subnet that has the address
   its_home : Subnet
   its_home = home_of q.config.subnets first.0
 
-  is_home : (covers q.config.subnets its_home a ≡ true) × (contained its_home a ≡ true)
-  unfolding its_home
-  is_home = (home_covers q.config.subnets (has_to_keep a) first.0 a first.1 parts.0, home_contains q.config.subnets (has_to_keep a) first.0 a first.1 in_pool)
+  is_home : covers q.config.subnets its_home a ≡ true
+  unfolding its_home a
+  is_home = home_covers q.config.subnets (has_to_keep q.message.header.ciaddr) first.0 q.message.header.ciaddr first.1 (keeper_has q first.0 first.1).0
 
   kept : kept_subnet q ≡ Some its_home
   unfolding its_home a
@@ -113,22 +126,21 @@ module _ (q : Asking) (keeps : q.config.extensions.keeps_leases ≡ true) (renew
   serves = ap (λ (o : Option Subnet). option_or o (subnet_serving q.config q.names q.message)) kept
 
   lasts : lasting_for q its_home a ≡ true
-  unfolding a
+  unfolding its_home a
   lasts =
-      or_right (fitting_for q its_home q.message.header.ciaddr) (is_some (kept_subnet q) && (contained its_home q.message.header.ciaddr && not (reserved_anywhere q.config q.message.header.ciaddr)))
-      (and_from (is_some (kept_subnet q)) (contained its_home q.message.header.ciaddr && not (reserved_anywhere q.config q.message.header.ciaddr)) (ap is_some kept)
-      (and_from (contained its_home q.message.header.ciaddr) (not (reserved_anywhere q.config q.message.header.ciaddr)) is_home.1 (ap not free)))
+      or_right (fitting_for q (home_of q.config.subnets first.0) q.message.header.ciaddr) (is_some (kept_subnet q) && may_last q.config (home_of q.config.subnets first.0) q.message.header.ciaddr)
+      (and_from (is_some (kept_subnet q)) (may_last q.config (home_of q.config.subnets first.0) q.message.header.ciaddr) (ap is_some kept) may)
 
   server : holds_at q (Some a) checks.Server ≡ true
   server = ap (λ (o : Option ℕ). not (other_server q.config.server o)) unnamed
 
   prefix : holds_at q (Some a) checks.Prefix ≡ true
-  prefix = ap (λ (o : Option Subnet). passes_in (covers q.config.subnets) o (Some a)) serves ∙ is_home.0
+  prefix = ap (λ (o : Option Subnet). passes_in (covers q.config.subnets) o (Some a)) serves ∙ is_home
 
   known : holds_at q (Some a) checks.Client ≡ true
   known =
       or_right q.config.extensions.is_authoritative (known_in q (serving_subnet q))
-      (ap (known_in q) serves ∙ sym (known_there q its_home (Some a) (and_from (client_has q a) (covers q.config.subnets its_home a) mine is_home.0)))
+      (ap (known_in q) serves ∙ sym (known_there q its_home (Some a) (and_from (client_has q a) (covers q.config.subnets its_home a) mine is_home)))
 
   renewable_there : holds_at q (Some a) checks.Lasts ≡ true
   renewable_there = ap (λ (o : Option Subnet). passes_in (lasting_for q) o (Some a)) serves ∙ lasts
@@ -157,4 +169,22 @@ module _ (q : Asking) (keeps : q.config.extensions.keeps_leases ≡ true) (renew
 
 -- a renewal without a relay is kept
 pub renewals_kept : EndsDecide → RenewalsAreKept
-renewals_kept decide q set outcome keeps renews pooled free does = begins_anew q keeps renews pooled free decide set outcome does
+renewals_kept decide q set outcome keeps renews pooled free does =
+    let first = pooled_keeper q pooled in
+    begins_anew q keeps renews first (free_lasts q first.0 first.1 free) decide set outcome does
+
+-- the subnet that is found, if its home is this one
+kept_there : (subnets : List Subnet) (a : ℕ) (s : Subnet) → subnet_keeping subnets a ≡ Some s → (t : Subnet) × (find (has_to_keep a) subnets ≡ Some t) × (home_of subnets t ≡ s)
+kept_there subnets a s is = by (find (has_to_keep a) subnets) refl is where
+  by : (o : Option Subnet) → find (has_to_keep a) subnets ≡ o → option_map (home_of subnets) o ≡ Some s → (t : Subnet) × (find (has_to_keep a) subnets ≡ Some t) × (home_of subnets t ≡ s)
+  by None e h = absurd (none-some s h)
+  by (Some t) e h = (t, (e, same_Some (home_of subnets t) s h))
+
+-- also behind a circuit
+pub circuits_kept : EndsDecide → CircuitsKeepLeases
+circuits_kept decide q s set outcome keeps renews there reserved does =
+    let a = q.message.header.ciaddr in
+    let first = kept_there q.config.subnets a s there in
+    let some : is_some (circuit_reservation (home_of q.config.subnets first.0) a) ≡ true = ap (λ (t : Subnet). is_some (circuit_reservation t a)) first.1.1 ∙ reserved in
+    begins_anew q keeps renews (first.0, first.1.0)
+    (or_right (contained (home_of q.config.subnets first.0) a && not (reserved_anywhere q.config a)) (is_some (circuit_reservation (home_of q.config.subnets first.0) a)) some) decide set outcome does

@@ -1,11 +1,11 @@
 -- What a client is promised that renews its lease without a relay (RFC 2131 section 4.3.2,
--- RENEWING): it keeps the lease, whatever its classes are.
-use Rattle.std.specs.Prelude.{◌≡◌, ℕ, Bool, true, false, ◌&&◌, List, Option, Some}
+-- RENEWING): it keeps the lease, whatever its classes and its circuit are.
+use Rattle.std.specs.Prelude.{◌≡◌, ℕ, Bool, true, false, ◌&&◌, List, Option, Some, is_some}
 use Rattle.std.specs.List.{list_any}
 use Rattle.kd_config.specs.Address.{has_address}
 use Rattle.kd_config.specs.declared.subnet.Subnet.{Subnet}
 use Rattle.kd_lease.specs.Choice.{Asking, contained, reserved_anywhere}
-use Rattle.kd_lease.specs.Kept.{renews_lease}
+use Rattle.kd_lease.specs.Kept.{circuit_reservation, renews_lease, subnet_keeping}
 use Rattle.kd_lease.specs.Plan.{Outcome}
 use Rattle.kd_lease.specs.Rules.{Does, IsReplyOf, leased_row}
 use Rattle.kd_lease.specs.declared.plan.PlanKind.TheVariants as kinds
@@ -25,5 +25,17 @@ RenewalsAreKept =
     → renews_lease q.rows q.message q.now q.client ≡ true
     → is_pooled_among q.config.subnets q.message.header.ciaddr ≡ true
     → reserved_anywhere q.config q.message.header.ciaddr ≡ false → Does q set outcome
+    → (set ≡ Some (leased_row q q.message.header.ciaddr))
+    × IsReplyOf kinds.Ack q.message.header.ciaddr outcome
+
+-- the same, if the subnet that has the address to keep reserves it for a circuit, which no relay names
+-- in such a renewal
+abbrev pub CircuitsKeepLeases : Type 0
+CircuitsKeepLeases =
+    (q : Asking) (s : Subnet) (set : Option Row) (outcome : Outcome)
+    → q.config.extensions.keeps_leases ≡ true
+    → renews_lease q.rows q.message q.now q.client ≡ true
+    → subnet_keeping q.config.subnets q.message.header.ciaddr ≡ Some s
+    → is_some (circuit_reservation s q.message.header.ciaddr) ≡ true → Does q set outcome
     → (set ≡ Some (leased_row q q.message.header.ciaddr))
     × IsReplyOf kinds.Ack q.message.header.ciaddr outcome

@@ -1,5 +1,5 @@
 //! A client that renews its lease without a relay keeps it.
-ghost use Rattle.kd_laws.specs.Renewals.{RenewalsAreKept};
+ghost use Rattle.kd_laws.specs.Renewals.{CircuitsKeepLeases, RenewalsAreKept};
 
 /// A client that renews its lease without a relay keeps it, whatever its classes are (RFC 2131
 /// section 4.3.2, RENEWING).
@@ -10,6 +10,17 @@ ghost use Rattle.kd_laws.specs.Renewals.{RenewalsAreKept};
 /// anew.
 pub fn renewals_are_kept()
     ensures { RenewalsAreKept }
+{
+    kd_lease::laws::ends_decide();
+}
+
+/// A client behind a circuit for which its address is reserved keeps its lease in the same way, although
+/// no relay names the circuit in its renewal (RFC 3046).
+///
+/// Take such a REQUEST, and let the subnet that has the address, or its shared network, reserve it for a
+/// circuit. Then it gets an ACK of the address, and the lease begins anew.
+pub fn circuits_keep_leases()
+    ensures { CircuitsKeepLeases }
 {
     kd_lease::laws::ends_decide();
 }

@@ -2,6 +2,7 @@
 -- are searched; and whose a reservation is.
 use Rattle.std.proofs.Common.{◌≡◌, ℕ, Bool, true, false, ◌&&◌, ◌||◌, ◌==◌, nat_eq, not, List, [], ◌∷◌, ◌++◌, refl, sym, ap, ◌∙◌, subst, Option, None, Some, if◌then◌else◌}
 use Rattle.std.specs.List.{find, list_all, list_any}
+use Rattle.std.specs.Option.{option_or}
 use Rattle.std.specs.Str.{bytes_eq}
 use Rattle.std.proofs.lemmas.Bool.{eqb-true, false≢true}
 use Rattle.kd_config.specs.Address.{has_address}
@@ -20,6 +21,7 @@ use Rattle.kd_config.specs.declared.subnet.Subnet.{Subnet}
 use Rattle.kd_options.specs.Joined.{value_of}
 use Rattle.kd_options.specs.Message.{Seen, mac_of}
 use Rattle.kd_lease.specs.Choice.{is_from, ranked_reservation, reserved_anywhere, reserved_in, client_reservation, same_value}
+use Rattle.kd_lease.specs.Kept.{circuit_reservation, renews_alone, reservation_at}
 use Rattle.kd_lease.specs.Seeking.{reserves}
 
 left : (t u : Bool) → (t && u) ≡ true → t ≡ true
@@ -111,13 +113,21 @@ find_by m (r ∷ rs) =
     ap (λ (b : Bool). if b then Some r else find (λ r. is_from m r.identity) rs) (from_by m r.identity)
     ∙ ap (λ (o : Option Reservation). if identified_by (mac_of m.header) (value_of 61 m.options) r.identity then Some r else o) (find_by m rs)
 
--- where kinds of identities have no order, whose a reservation is, is decided by the hardware address
--- and the identifier of the client
-pub reservation_listed : (config : Configuration) (m : Seen) (s : Subnet) → config.extensions.ranks_identities ≡ false
-    → client_reservation config m s ≡ find (λ r. identified_by (mac_of m.header) (value_of 61 m.options) r.identity) s.reservations
-reservation_listed config m s plain =
-    ap (λ (b : Bool). if b then ranked_reservation m s else find (λ r. is_from m r.identity) s.reservations) plain
-    ∙ find_by m s.reservations
+-- whose a reservation is, is decided by the hardware address and the identifier of the client
+pub reservation_listed : (m : Seen) (s : Subnet) → find (λ r. is_from m r.identity) s.reservations ≡ find (λ r. identified_by (mac_of m.header) (value_of 61 m.options) r.identity) s.reservations
+reservation_listed m s = find_by m s.reservations
+
+or_nothing : (o : Option Reservation) → option_or o None ≡ o
+or_nothing None = refl
+or_nothing (Some r) = refl
+
+-- where kinds of identities have no order and no lease is kept, it is the first of the subnet
+pub by_list : (config : Configuration) (m : Seen) (s : Subnet) (a : ℕ) → config.extensions.ranks_identities ≡ false → config.extensions.keeps_leases ≡ false
+    → reservation_at config m s a ≡ find (λ r. is_from m r.identity) s.reservations
+by_list config m s a plain none =
+    ap (λ (b : Bool). option_or (client_reservation config m s) (if b && renews_alone m a then circuit_reservation s a else None)) none
+    ∙ or_nothing (client_reservation config m s)
+    ∙ ap (λ (b : Bool). if b then ranked_reservation m s else find (λ r. is_from m r.identity) s.reservations) plain
 
 none_in : (rs : List Reservation) (a : ℕ) → is_some_reserved rs ≡ false → list_any (has_reserved a) rs ≡ false
 none_in [] a none = refl
@@ -125,10 +135,11 @@ none_in (r ∷ rs) a none = absurd (false≢true (sym none))
 
 none_among : (subnets : List Subnet) (a : ℕ) → list_any has_reservations subnets ≡ false → list_any (reserved_in a) subnets ≡ false
 none_among [] a none = refl
-none_among (s ∷ subnets) a none = by (is_some_reserved s.reservations) refl none where
-  by : (b : Bool) → is_some_reserved s.reservations ≡ b → (b || list_any has_reservations subnets) ≡ false → (reserved_in a s || list_any (reserved_in a) subnets) ≡ false
-  by true e h = absurd (false≢true (sym h))
-  by false e h = ap (λ b. b || list_any (reserved_in a) subnets) (none_in s.reservations a e) ∙ none_among subnets a h
+none_among (s ∷ subnets) a none = by (is_some_reserved s.reservations) refl none (none_among subnets a) where
+  by : (b : Bool) → is_some_reserved s.reservations ≡ b → (b || list_any has_reservations subnets) ≡ false
+      → (list_any has_reservations subnets ≡ false → list_any (reserved_in a) subnets ≡ false) → (reserved_in a s || list_any (reserved_in a) subnets) ≡ false
+  by true e h rest = absurd (false≢true (sym h))
+  by false e h rest = ap (λ b. b || list_any (reserved_in a) subnets) (none_in s.reservations a e) ∙ rest h
 
 -- where no subnet has a reservation, no address is reserved
 pub none_reserves : (config : Configuration) (a : ℕ) → list_any has_reservations config.subnets ≡ false → reserved_anywhere config a ≡ false

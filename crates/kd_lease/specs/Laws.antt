@@ -12,8 +12,9 @@ use Rattle.kd_options.specs.declared.kind.MessageType.TheVariants as types
 use Rattle.kd_rows.specs.Table.{belongs_to, row_at}
 use Rattle.kd_rows.specs.declared.row.Row.{Row}
 use Rattle.kd_lease.specs.Change.{Changes, Decides}
-use Rattle.kd_lease.specs.Choice.{Asking, Choice, Rank, fitting_for, has_rank, live_row, usable}
+use Rattle.kd_lease.specs.Choice.{Asking, Choice, Rank, fitting_for, has_rank, is_from, live_row, usable}
 use Rattle.kd_lease.specs.Client.{client_identity, identity_under, kind_of, named_server}
+use Rattle.kd_lease.specs.Kept.{reservation_at}
 use Rattle.kd_lease.specs.Plan.{Content, Outcome}
 use Rattle.kd_lease.specs.Plan.Outcome.{planned}
 use Rattle.kd_lease.specs.Rules.{Does, IsAbout, Makes, Sets, client_has, ending, held_at, holds_at, known_in, lasting_for, renewable, rule_of, serving_subnet}
@@ -161,6 +162,15 @@ abbrev pub KnownByMessage : Type 0
 KnownByMessage =
     (config : Configuration) (m : Seen) → config.extensions.ignores_client_ids ≡ false
     → identity_under config m ≡ client_identity m
+
+-- where kinds of identities have no order and clients keep no leases, the reservation that counts for a
+-- message is the first of the subnet for its client, by the hardware address or by option 61
+abbrev pub ReservedByList : Type 0
+ReservedByList =
+    (config : Configuration) (m : Seen) (s : Subnet) (a : ℕ)
+    → config.extensions.ranks_identities ≡ false → config.extensions.keeps_leases ≡ false
+    → reservation_at config m s a
+    ≡ find (λ reservation. is_from m reservation.identity) s.reservations
 
 -- a subnet in no network has the addresses of its prefix, and its own options and mask are given
 abbrev pub StandsAlone : Type 0

@@ -4,7 +4,9 @@ ghost use Rattle.std.specs.Option.{option_copied};
 ghost use Rattle.kd_lease.specs.Client.{circuit_of, client_bytes, duid_in, wants_option, greatest_by, server_message, reply_room};
 
 use kd_config::IdentityKind;
-use kd_options::codes::{OPTION_CLIENT_IDENTIFIER, OPTION_MAXIMUM_MESSAGE_SIZE, OPTION_PARAMETER_REQUEST_LIST};
+use kd_options::codes::{
+    OPTION_CLIENT_IDENTIFIER, OPTION_MAXIMUM_MESSAGE_SIZE, OPTION_PARAMETER_REQUEST_LIST,
+};
 use kd_options::{Message, MessageType};
 
 // The type of a client identifier that has a DUID in it (RFC 4361 section 6.1).

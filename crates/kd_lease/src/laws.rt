@@ -1,6 +1,6 @@
 //! What is true of the rules, whatever the program does. Each law is the contract of a function
 //! that does nothing.
-ghost use Rattle.kd_lease.specs.Laws.{EndsAreFounded, EndsDecide, HeldHasNoRank, HeldIsNotGiven, HeldIsNotUsable, KnownByMessage, KnownByRecord, NakSetsNone, OneAnswer, OneChange, PlaceByHeader, RenewedByClass, ServesAlone, ServesByPrefix, SetsNow, StandsAlone, StrangersAreRefused};
+ghost use Rattle.kd_lease.specs.Laws.{EndsAreFounded, EndsDecide, HeldHasNoRank, HeldIsNotGiven, HeldIsNotUsable, KnownByMessage, KnownByRecord, NakSetsNone, OneAnswer, OneChange, PlaceByHeader, RenewedByClass, ReservedByList, ServesAlone, ServesByPrefix, SetsNow, StandsAlone, StrangersAreRefused};
 
 /// A row that a message sets has the time of the message as its time of change.
 pub fn sets_now()
@@ -50,6 +50,12 @@ pub fn strangers_are_refused()
 /// Where client identifiers are not ignored, who a client is follows from its message alone.
 pub fn known_by_message()
     ensures { KnownByMessage }
+{}
+
+/// Where kinds of identities have no order and clients keep no leases, the reservation that counts for
+/// a message is the first of the subnet for its client, by the hardware address or by option 61.
+pub fn reserved_by_list()
+    ensures { ReservedByList }
 {}
 
 /// A subnet in no network has the addresses of its prefix, and gives its own options and mask.

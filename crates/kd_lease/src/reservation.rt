@@ -1,7 +1,7 @@
 ghost use Rattle.std.specs.Prelude.{◌≡◌, ◌&&◌, None, Some, if◌then◌else◌};
-ghost use Rattle.std.specs.List.{list_any};
+ghost use Rattle.std.specs.List.{find, list_any};
 ghost use Rattle.std.specs.Option.{option_copied};
-ghost use Rattle.kd_lease.specs.Choice.{reserved_anywhere, reserved_in, client_reservation, address_reserved, ranked_reservation, reservation_by};
+ghost use Rattle.kd_lease.specs.Choice.{reserved_anywhere, reserved_in, client_reservation, address_reserved, is_from, ranked_reservation, reservation_by};
 ghost use Rattle.kd_lease.specs.Given.{reserved_options};
 ghost use Rattle.kd_lease.specs.Kept.{circuit_reservation, if_for_circuit, renews_alone, reservation_at};
 ghost use Rattle.kd_lease.specs.Seeking.{reserves};
@@ -30,7 +30,6 @@ pub(crate) fn reserved_address(
 /// Returns the reservation of a subnet for the client of a message: where kinds of identities have an
 /// order, that by its hardware address, or else its DUID, its circuit or its identifier; otherwise
 /// the first by its hardware address or its option 61.
-#[tactic(auto, using(crate::proofs::Reserved::reservation_listed))]
 pub fn reservation_of<'a>(
     config: &Config,
     message: &Message<'_>,
@@ -41,21 +40,35 @@ pub fn reservation_of<'a>(
     if config.extensions().ranks_identities {
         ranked(message, subnet)
     } else {
-        subnet
-            .reservations
-            .of_client(message.mac(), message.option(OPTION_CLIENT_IDENTIFIER))
+        first_listed(message, subnet)
     }
+}
+
+// Returns the first reservation for the client of a message, by its hardware address or its option 61.
+#[tactic(auto, using(crate::proofs::Reserved::reservation_listed))]
+fn first_listed<'a>(message: &Message<'_>, subnet: &'a Subnet) -> Option<&'a Reservation>
+    ensures { option_copied result
+        ≡ find (λ reservation. is_from message.now reservation.identity) subnet.now.reservations }
+{
+    subnet
+        .reservations
+        .of_client(message.mac(), message.option(OPTION_CLIENT_IDENTIFIER))
 }
 
 // Returns the reservation for the client of a message by the first kind of identity that has one.
 fn ranked<'a>(message: &Message<'_>, subnet: &'a Subnet) -> Option<&'a Reservation>
     ensures { option_copied result ≡ ranked_reservation message.now subnet.now }
 {
-    let by = |kind: IdentityKind| by_kind(message, subnet, kind);
-    by(IdentityKind::Hardware)
-        .or_else(|| by(IdentityKind::Duid))
-        .or_else(|| by(IdentityKind::Circuit))
-        .or_else(|| by(IdentityKind::ClientId))
+    if let Some(found) = by_kind(message, subnet, IdentityKind::Hardware) {
+        return Some(found);
+    }
+    if let Some(found) = by_kind(message, subnet, IdentityKind::Duid) {
+        return Some(found);
+    }
+    if let Some(found) = by_kind(message, subnet, IdentityKind::Circuit) {
+        return Some(found);
+    }
+    by_kind(message, subnet, IdentityKind::ClientId)
 }
 
 // Returns the first reservation for the client of a message by a kind of identity.
@@ -66,7 +79,9 @@ fn by_kind<'a>(
 ) -> Option<&'a Reservation>
     ensures { option_copied result ≡ reservation_by message.now subnet.now kind }
 {
-    subnet.reservations.of_kind(kind, identity_bytes(message, kind))
+    subnet
+        .reservations
+        .of_kind(kind, identity_bytes(message, kind))
 }
 
 /// Returns the reservation that counts for the reply to a message with an address, in host order: that
@@ -142,7 +157,6 @@ pub fn reservation_options<'a>(
 }
 
 /// Reports whether an address, in host order, is reserved in a subnet of the configuration.
-#[tactic(auto, using(crate::proofs::Reserved::none_reserves))]
 pub fn is_reserved(config: &Config, address: u32) -> bool
     ensures { result ≡ reserved_anywhere config.now address }
 {
