@@ -33,7 +33,7 @@ PREFIXES = {
     "192.0.2.10/32": "192.0.2.10",
 }
 MACS = [bytes([10, 0, 0, 0, 0, last]) for last in range(1, 6)]
-IDENTIFIERS = [b"\x01\xaa", b"\xff", b"\x01\x0a\x00\x00\x00\x00\x01"]
+IDENTIFIERS = [b"\x01\xaa", b"\xff", b"\x01\x0a\x00\x00\x00\x00\x01", b"\xff\0\0\0\x07\0\x03", b"\xff\0\0\0\x08\0\x03"]
 VENDORS = [b"a", b"b", b"ab", b""]
 CODES = [1, 3, 6, 15, 43, 60, 119, 254]
 TESTS = [
@@ -145,7 +145,7 @@ class Client:
         self.hardware = chance.choice(MACS)
         kinds = [(1, 6), (6, 6), (1, 0), (1, 5), (1, 16), (1, 255)]
         self.htype, self.hlen = chance.choices(kinds, [40, 2, 1, 1, 1, 1])[0]
-        self.identifier = chance.choices([None, b""] + IDENTIFIERS + [bytes(280)], [12, 1, 2, 2, 2, 0.1])[0]
+        self.identifier = chance.choices([None, b""] + IDENTIFIERS + [bytes(280)], [12, 1, 2, 2, 2, 1, 1, 0.1])[0]
         self.vendor = chance.choice([None, None] + VENDORS)
         self.relay = None
 
@@ -222,7 +222,7 @@ def message_options(chance, root, rows, client, kind):
         link = some_address(chance, root, rows, client)
         link = written(5, chance.choice([link, link, link, link[:3], link + b"\0"]))
         pairs = [pair for pair in pairs if pair[0] != 82]
-        pairs.append((82, chance.choice([b"", b"\x01\x01x", b"\x01\x01x"]) + chance.choice([b"", b"", link])))
+        pairs.append((82, chance.choice([b"", b"\x01\x01x", b"\x01\x01x", b"\x01\x02xy"]) + chance.choice([b"", b"", link])))
     return pairs
 
 

@@ -250,25 +250,54 @@ def changed_row(asked, address_of_row, client, state, seconds):
 # ---- which addresses a client may have
 
 
+def said_of_client(asked):
+    """What a message says of its client, by the key of a reservation: in a file of Kea's in the order of the keys."""
+    identifier = asked.found.get(61)
+    said = {"hw-address": mac(asked.datagram), "client-id": identifier}
+    if not is_kea(asked.root):
+        return said
+    duid = identifier[5:] if identifier and identifier[0] == 255 and len(identifier) > 5 else None
+    circuit = relay_options(asked.found).get(1) if giaddr(asked) else None
+    return {"hw-address": said["hw-address"], "duid": duid, "circuit-id": circuit, "client-id": identifier}
+
+
 def reservation(asked):
-    """The subnet's first reservation for this client, or None."""
-    for entry in asked.subnet.get("reservations", []):
-        by_hardware = "hw-address" in entry and hexadecimal(entry["hw-address"]) == mac(asked.datagram)
-        by_identifier = "client-id" in entry and hexadecimal(entry["client-id"]) == asked.found.get(61)
-        if by_hardware or by_identifier:
-            return entry
+    """The subnet's reservation for this client, or None: the first of the subnet, or in a file of Kea's that of the first key."""
+    entries, said = asked.subnet.get("reservations", []), said_of_client(asked)
+    for keys in [[key] for key in said] if is_kea(asked.root) else [list(said)]:
+        for entry in entries:
+            if any(key in entry and hexadecimal(entry[key]) == said[key] for key in keys):
+                return entry
     return None
 
 
+def for_circuit(asked, wanted):
+    """The reservation of an address, if it is for a circuit; or None."""
+    entries = [entry for entry in asked.subnet.get("reservations", []) if reserved_by(entry) == [wanted]]
+    return next((entry for entry in entries if "circuit-id" in entry), None)
+
+
+def counting(asked, wanted):
+    """The reservation that counts for a reply with an address: the client's, or the circuit's if no relay names that; or None."""
+    is_alone = is_kea(asked.root) and asked.found[53][0] == REQUEST and len(asked.found.get(54, b"")) != 4 and not giaddr(asked)
+    behind = for_circuit(asked, wanted) if is_alone and ciaddr(asked) == wanted else None
+    return reservation(asked) or behind
+
+
+def reserved_by(entry):
+    """The address of a reservation in a list, or none."""
+    return [number(address(entry["ip-address"]))] if "ip-address" in entry else []
+
+
 def reserved(asked):
-    """The address of the subnet's first reservation for this client, or None."""
+    """The address of the subnet's reservation for this client, or None."""
     entry = reservation(asked)
-    return None if entry is None else number(address(entry["ip-address"]))
+    return None if entry is None else next(iter(reserved_by(entry)), None)
 
 
 def reserved_in(subnet):
     """The addresses of all reservations of a subnet."""
-    return [number(address(entry["ip-address"])) for entry in subnet.get("reservations", [])]
+    return [each for entry in subnet.get("reservations", []) for each in reserved_by(entry)]
 
 
 def all_reserved(root):
@@ -289,10 +318,10 @@ def fits(asked, wanted):
 
 
 def lasts(asked, wanted):
-    """Whether an address may be renewed: it fits, or it is kept in a pool for whichever class, and not reserved."""
+    """Whether an address may be renewed: it fits, or it is kept, in a pool for whichever class and not reserved, or for a circuit."""
     ranges = [pool(entry["pool"]) for entry in asked.subnet.get("pools", [])]
-    is_in_pool = any(first <= wanted <= last for first, last in ranges)
-    return fits(asked, wanted) or asked.keeps and is_in_pool and wanted not in all_reserved(asked.root)
+    is_in_pool = any(first <= wanted <= last for first, last in ranges) and wanted not in all_reserved(asked.root)
+    return fits(asked, wanted) or asked.keeps and (is_in_pool or for_circuit(asked, wanted) is not None)
 
 
 def is_free(asked, wanted):
@@ -459,6 +488,8 @@ def configured(asked, plan):
         return []
     at = place_of(asked, plan)
     values = given(asked.root, given_by(asked.subnet, at), asked.held, at)
+    host = counting(asked, at) or {}
+    values.update({entry["code"]: hexadecimal(entry["data"]) for entry in host.get("option-data", [])})
     return [written(code, values[code]) for code in sorted(values) if 55 not in asked.found or code in asked.found[55]]
 
 
@@ -468,9 +499,9 @@ def boot_value(holder, key):
     return None if text == "" else address(text) if key == "next-server" else text.encode().ljust(BOOT[key], b"\0")
 
 
-def boots_of_client(asked, key):
+def boots_of_client(asked, key, at):
     """What the client's reservation and its classes in the order of the file give to a boot field. 0.0.0.0 gives nothing."""
-    entry = reservation(asked)
+    entry = counting(asked, at)
     holders = [] if entry is None else [entry]
     holders += [each for each in asked.root.get("client-classes", []) if each["name"].encode() in asked.held]
     values = [boot_value(each, key) for each in holders]
@@ -490,7 +521,8 @@ def boots_of_place(asked, key, at):
 def boot_field(asked, plan, key):
     """A field of a reply by which its client boots: the first value that is given, or else zeros."""
     is_given = plan.kind != "NAK"
-    values = boots_of_client(asked, key) + boots_of_place(asked, key, place_of(asked, plan)) if is_given else []
+    at = place_of(asked, plan)
+    values = boots_of_client(asked, key, at) + boots_of_place(asked, key, at) if is_given else []
     return next((value for value in values if value is not None), bytes(BOOT[key]))
 
 

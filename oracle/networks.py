@@ -6,8 +6,8 @@
 The configurations are those of histories.py, with most of their subnets in shared networks: of one to three subnets, with
 options, relays and a class of the network or of its subnets, and pools for a class. Clients come through these relays too.
 The whole server, networks, subnets, classes and reservations give values to boot fields, some of them empty. Some relays
-select a link, and some clients renew without the relay that says their class. Some servers are authoritative, and some ignore
-client identifiers.
+select a link, and some clients renew without the relay that says their class or their circuit. Some servers are authoritative,
+and some ignore client identifiers. Some reservations are by circuit or by DUID, have no address, or have options.
 """
 import json
 
@@ -48,6 +48,23 @@ def network(chance, number, subnets, names):
     return {**made, "subnet4": [with_classes(chance, each, names) for each in subnets]}
 
 
+def with_hosts(chance, root):
+    """The configuration with reservations by circuit and by DUID, some without an address, and options of reservations."""
+    often = chance.choice([0, 0.3, 0.7])
+    for subnet, _ in judge.subnets_of(root):
+        keys = [("circuit-id", b"x"), ("circuit-id", b"xy"), ("duid", b"\0\x03")]
+        chance.shuffle(keys)
+        for entry in subnet.get("reservations", []):
+            if keys and chance.random() < often:
+                key, value = keys.pop()
+                entry.pop("hw-address", entry.pop("client-id", None))
+                entry[key] = value.hex()
+            if chance.random() < 0.2 * often:
+                entry.pop("ip-address")
+            entry.update(histories.options(chance, 0.5 * often))
+    return root
+
+
 def boot_keys(chance, often):
     """Values for some of the boot fields, or none."""
     return {key: chance.choice(values) for key, values in BOOTS.items() if chance.random() < often}
@@ -84,7 +101,7 @@ def configuration(chance):
             root["shared-networks"].append(network(chance, len(root["shared-networks"]), taken, names))
         else:
             root["subnet4"] += taken
-    return with_boot_keys(chance, root)
+    return with_boot_keys(chance, with_hosts(chance, root))
 
 
 def history(chance):
