@@ -41,11 +41,6 @@ abbrev pub identified_by : List ℕ → Option (List ℕ) → Identity → Bool
 identified_by mac id identity =
     is_client kinds.Hardware mac identity || is_client_if kinds.ClientId id identity
 
--- the client is known by what its relay says
-abbrev pub is_relayed : Identity → Bool
-is_relayed (clients.Circuit bytes) = true
-is_relayed other = false
-
 -- the lookup of an address finds the place of its reservation
 abbrev pub AreAddresses : (ℕ → Option ℕ) → List Reservation → Type 0
 AreAddresses found reservations =

@@ -1,9 +1,10 @@
-ghost use Rattle.std.specs.Prelude.{◌≡◌, ◌==◌, IfOk, List, None, OnOk, Some, [], if◌then◌else◌, nat_eq, slice_get, ℕ};
+ghost use Rattle.std.specs.Prelude.{◌≡◌, ◌==◌, ◌++◌, IfOk, List, None, OnOk, Some, [], if◌then◌else◌, nat_eq, slice_get, ℕ};
 ghost use Rattle.std.specs.List.{find, list_any};
 ghost use Rattle.std.specs.Option.{option_copied, option_or};
 ghost use Rattle.std.specs.Str.{bytes_eq};
 ghost use Rattle.indexmap.specs.IndexMap.{get_by};
-ghost use Rattle.kd_config.specs.Reservation.{AreAddresses, ArePlaces, bytes_of_kind, earlier, found_if, has_reserved, identified_by, is_client, is_client_if, same_address};
+ghost use Rattle.kd_config.specs.Reservation.{AreAddresses, ArePlaces, bytes_of_kind, earlier, found_if, has_reserved, identified_by, is_client, is_client_if, listed, same_address};
+ghost use Rattle.kd_config.specs.Rules.{reserved};
 
 use crate::reservation::{Identity, IdentityKind, Reservation};
 use indexmap::IndexMap;
@@ -95,6 +96,17 @@ impl Reservations {
         self.list.as_slice()
     }
 
+    /// Appends the addresses of the reservations that have one, in host order.
+    ///
+    /// # Errors
+    ///
+    /// Out of memory.
+    pub fn put_addresses(&self, out: &mut Vec<u32>) -> Result<(), AllocError>
+        ensures { OnOk result (out.new.items ≡ out.old.items ++ reserved self.now) }
+    {
+        put_reserved(out, self.as_slice())
+    }
+
     /// Reports whether an address, in host order, is reserved.
     pub fn has(&self, address: u32) -> bool
         ensures { result ≡ list_any (has_reserved address) self.now }
@@ -159,6 +171,27 @@ impl Reservations {
     {
         self.list.get(place)
     }
+}
+
+// Appends the addresses of reservations.
+fn put_reserved(out: &mut Vec<u32>, reservations: &[Reservation]) -> Result<(), AllocError>
+    ensures { OnOk result (out.new.items ≡ out.old.items ++ reserved reservations.now) }
+{
+    for reservation in reservations {
+        put_listed(out, reservation.address)?;
+    }
+    Ok(())
+}
+
+// Appends an address, if there is one.
+fn put_listed(out: &mut Vec<u32>, address: Option<u32>) -> Result<(), AllocError>
+    ensures { OnOk result (out.new.items ≡ out.old.items ++ listed address) }
+{
+    match address {
+        Some(address) => out.push(address)?,
+        None => {}
+    }
+    Ok(())
 }
 
 // Collects the index of the first reservation of each address.

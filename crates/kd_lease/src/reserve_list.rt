@@ -1,13 +1,11 @@
-ghost use Rattle.std.specs.Prelude.{◌≡◌, ◌++◌, IfOk, OnOk};
+ghost use Rattle.std.specs.Prelude.{◌≡◌, IfOk};
 ghost use Rattle.std.specs.List.{All};
-ghost use Rattle.kd_config.specs.Reservation.{listed};
-ghost use Rattle.kd_config.specs.Rules.{reserved};
 ghost use Rattle.kd_rows.specs.Row.{IsInRange};
 ghost use Rattle.kd_rows.specs.Table.{Rise, least_of};
 ghost use Rattle.kd_lease.specs.Withholding.{WithholdsReserved};
 
 use crate::cuts::table_of;
-use kd_config::{Config, Reservation};
+use kd_config::Config;
 use kd_rows::{Row, Withheld};
 use std::alloc::{AllocError, Global};
 
@@ -56,29 +54,7 @@ fn reserved_addresses(alloc: Global, config: &Config) -> Result<Vec<u32>, AllocE
 {
     let mut addresses = Vec::new(alloc);
     for subnet in config.subnets() {
-        put_reserved(&mut addresses, subnet.reservations.as_slice())?;
+        subnet.reservations.put_addresses(&mut addresses)?;
     }
     Ok(addresses)
-}
-
-// Appends the addresses of reservations.
-fn put_reserved(addresses: &mut Vec<u32>, reservations: &[Reservation]) -> Result<(), AllocError>
-    ensures { OnOk result
-        (addresses.new.items ≡ addresses.old.items ++ reserved reservations.now) }
-{
-    for reservation in reservations {
-        put_listed(addresses, reservation.address)?;
-    }
-    Ok(())
-}
-
-// Appends an address, if there is one.
-fn put_listed(addresses: &mut Vec<u32>, address: Option<u32>) -> Result<(), AllocError>
-    ensures { OnOk result (addresses.new.items ≡ addresses.old.items ++ listed address) }
-{
-    match address {
-        Some(address) => addresses.push(address)?,
-        None => {}
-    }
-    Ok(())
 }

@@ -1,8 +1,7 @@
-ghost use Rattle.std.specs.Prelude.{◌≡◌, ◌++◌, ℕ, IfOk, OnOk};
+ghost use Rattle.std.specs.Prelude.{◌≡◌, ℕ, IfOk};
 ghost use Rattle.std.specs.List.Sorted.{IsNonDecreasing};
-ghost use Rattle.kd_config.specs.Reservation.{listed};
 ghost use Rattle.kd_lease.specs.Choice.{reserved_anywhere};
-ghost use Rattle.kd_pools.specs.Walking.{PassesBelow, IsPlaceFor, subnets_reserved, is_listed, subnet_reserved};
+ghost use Rattle.kd_pools.specs.Walking.{PassesBelow, IsPlaceFor, subnets_reserved, is_listed};
 
 use kd_config::{Config, Subnet};
 use std::alloc::{AllocError, Global};
@@ -24,30 +23,9 @@ fn reserved_in_order(alloc: Global, subnets: &[Subnet]) -> Result<Vec<u32>, Allo
 {
     let mut list = Vec::new(alloc);
     for subnet in subnets {
-        push_reserved(&mut list, subnet)?;
+        subnet.reservations.put_addresses(&mut list)?;
     }
     Ok(list)
-}
-
-// Appends the addresses that a subnet reserves to a list.
-fn push_reserved(list: &mut Vec<u32>, subnet: &Subnet) -> Result<(), AllocError>
-    ensures { OnOk result (list.new.items ≡ list.old.items ++ subnet_reserved subnet.now) }
-{
-    for reservation in subnet.reservations.as_slice() {
-        push_listed(list, reservation.address)?;
-    }
-    Ok(())
-}
-
-// Appends an address to a list, if there is one.
-fn push_listed(list: &mut Vec<u32>, address: Option<u32>) -> Result<(), AllocError>
-    ensures { OnOk result (list.new.items ≡ list.old.items ++ listed address) }
-{
-    match address {
-        Some(address) => list.push(address)?,
-        None => {}
-    }
-    Ok(())
 }
 
 // Returns the place of the first address of a list that is not below this one.
