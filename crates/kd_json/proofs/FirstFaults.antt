@@ -1,5 +1,5 @@
 -- The place of the first value that breaks a rule, and the kind of its fault.
-use Rattle.std.proofs.Common.{◌≡◌, ℕ, ◌+◌, ◌<◌, ◌≤◌, Bool, true, false, not, ◌&&◌, nat_le, nat_lt, nat_eq, if◌then◌else◌, List, [], ◌∷◌, ◌++◌, length, get_or, take, drop, codes, Some, None, ap, sym, refl, ◌∙◌, arith, append-nil, append_assoc}
+use Rattle.std.proofs.Common.{◌≡◌, ℕ, ◌+◌, ◌<◌, ◌≤◌, Bool, true, false, not, ◌&&◌, nat_le, nat_lt, nat_eq, if◌then◌else◌, List, [], ◌∷◌, ◌++◌, length, get_or, take, drop, codes, Option, Some, None, ap, sym, refl, ◌∙◌, arith, append-nil, append_assoc}
 use Rattle.std.proofs.lemmas.Bool.{and_from, and_left, and_right, le-leb, leb-true, lt-leb, ltb-false, ltb-true}
 use Rattle.std.proofs.lemmas.List.{length-take, take-append-drop, take_all, take_more}
 use Rattle.std.proofs.lemmas.List.Folds.{list_all-append, list_all_more}
@@ -9,10 +9,11 @@ use Rattle.std.specs.List.{list_all, list_any}
 use Rattle.kd_config.proofs.Tests.{both_passed}
 use Rattle.kd_json.proofs.Shared.{must_failed, must_passed}
 use Rattle.kd_config.specs.Address.{has_address}
+use Rattle.kd_config.specs.Reservation.{listed}
 use Rattle.kd_json.specs.Faults.{config_fault_number, fault_path}
-use Rattle.kd_json.specs.FirstFault.{PoolFails, ReservationFails, client_key, path_below, wrong_key}
+use Rattle.kd_json.specs.FirstFault.{PoolFails, ReservationFails, client_key, lies_in, path_below, wrong_key}
 use Rattle.kd_json.specs.Parts.{lie_and_fit}
-use Rattle.kd_config.specs.Rules.{is_new, lies_within, may_all_reserve, may_reserve, reserved}
+use Rattle.kd_config.specs.Rules.{is_new, lies_within, may_all_reserve, may_have, may_reserve, reserved}
 use Rattle.kd_json.specs.Steps.{must}
 use Rattle.kd_json.specs.declared.fault.ConfigFault.{ConfigFault}
 use Rattle.kd_config.specs.declared.pool.Pool.{Pool}
@@ -48,12 +49,13 @@ wrong_client prefix earlier r e =
     ap (λ (b : Bool). if b then client_key r.identity else codes "ip-address")
     (sym (must_passed (may_reserve prefix earlier r) e))
 
--- a reservation whose address passed is inside the prefix
-pub is_inside : (prefix : Prefix) (earlier : List ℕ) (r : Reservation)
-    → must (may_reserve prefix earlier r) ≡ Some tt → has_address prefix r.address ≡ true
-is_inside prefix earlier r e =
-    (both_passed (has_address prefix r.address) (not (list_any (nat_eq r.address) earlier))
-    (must_passed (may_reserve prefix earlier r) e)).0
+-- a reservation whose address passed has none outside the prefix
+pub is_inside : (prefix : Prefix) (earlier : List ℕ) (address : Option ℕ)
+    → must (may_have prefix earlier address) ≡ Some tt → lies_in prefix address ≡ true
+is_inside prefix earlier None e = refl
+is_inside prefix earlier (Some a) e =
+    (both_passed (has_address prefix a) (not (list_any (nat_eq a) earlier))
+    (must_passed (may_have prefix earlier (Some a)) e)).0
 
 all_false : (a b c : Bool) → (a && b) ≡ false → (a && (b && c)) ≡ false
 all_false false b c e = refl
@@ -71,11 +73,11 @@ pub inside_passed : (prefix : Prefix) (first earlier : List ℕ) (clients : List
     (rs : List Reservation) (i : ℕ) (r : Reservation) → i < length rs → r ≡ get_or rs i r
     → Decide prefix first (take i rs) earlier clients
     → must (may_reserve prefix earlier r && is_new clients r.identity) ≡ Some tt
-    → Decide prefix first (take (i + 1) rs) (earlier ++ r.address ∷ []) (clients ++ r.identity ∷ [])
+    → Decide prefix first (take (i + 1) rs) (earlier ++ listed r.address) (clients ++ r.identity ∷ [])
 inside_passed prefix first earlier clients rs i r below is left e more =
     let both = both_passed (may_reserve prefix earlier r) (is_new clients r.identity)
     (must_passed (may_reserve prefix earlier r && is_new clients r.identity) e) in
-    let rest = may_all_reserve prefix (earlier ++ r.address ∷ []) (clients ++ r.identity ∷ []) more in
+    let rest = may_all_reserve prefix (earlier ++ listed r.address) (clients ++ r.identity ∷ []) more in
     ap (may_all_reserve prefix first []) (one_more_at rs i r more below is)
     ∙ (left (r ∷ more)
     ∙ (ap (λ (b : Bool). b && (is_new clients r.identity && rest)) both.0
@@ -87,7 +89,7 @@ pub inside_failed : (prefix : Prefix) (path first earlier : List ℕ) (clients :
     → r ≡ get_or rs i r → earlier ≡ first ++ reserved (take i rs)
     → Decide prefix first (take i rs) earlier clients
     → must (may_reserve prefix earlier r && is_new clients r.identity) ≡ None
-    → config_fault_number fault ≡ (if has_address prefix r.address then 76 else 74)
+    → config_fault_number fault ≡ (if lies_in prefix r.address then 76 else 74)
     → fault_path fault
     ≡ path_below (path_below path (decimal i)) (wrong_key prefix earlier r)
     → ReservationFails (may_all_reserve prefix first []) path first prefix rs fault
@@ -117,7 +119,7 @@ not_all_inside prefix first earlier clients rs i r below is left e =
     let rest = drop (i + 1) rs in
     ap must (ap (may_all_reserve prefix first []) (sym (cut_at_place rs i r below is))
     ∙ (left (r ∷ rest) ∙ all_false (may_reserve prefix earlier r) (is_new clients r.identity)
-    (may_all_reserve prefix (earlier ++ r.address ∷ []) (clients ++ r.identity ∷ []) rest)
+    (may_all_reserve prefix (earlier ++ listed r.address) (clients ++ r.identity ∷ []) rest)
     (must_failed (may_reserve prefix earlier r && is_new clients r.identity) e)))
 
 -- all have passed

@@ -3,12 +3,11 @@ use Rattle.std.proofs.Common.{◌≡◌, ◌≢◌, ℕ, ◌≤◌, Bool, true, 
 use Rattle.kd_classes.specs.Order.{AreInOrder}
 use Rattle.kd_classes.specs.declared.definition.ClassDef.{ClassDef}
 use Rattle.kd_config.proofs.Tests.{some_is}
-use Rattle.kd_config.specs.Address.{has_address}
 use Rattle.kd_config.specs.Configuration.{Configuration}
 use Rattle.kd_json.specs.Configured.{AreDefinitions, IsConfigOf, IsConfigured}
 use Rattle.kd_json.specs.Document.{accepted, accepted_settings}
 use Rattle.kd_json.specs.Faults.{config_fault_number}
-use Rattle.kd_json.specs.FirstFault.{all_reserved, subnet_path, SubnetFails, SubnetsFail, IsFaultOfSettings}
+use Rattle.kd_json.specs.FirstFault.{all_reserved, lies_in, subnet_path, SubnetFails, SubnetsFail, IsFaultOfSettings}
 use Rattle.kd_json.specs.Parts.{classes_fault, settings_fault}
 use Rattle.kd_config.specs.Rules.{lies_within, may_stand}
 use Rattle.kd_json.specs.declared.fault.ConfigFault.{ConfigFault}
@@ -51,7 +50,7 @@ of_rule test path earlier s fault (inl h) =
     between (lies_within s.prefix h.pool) (config_fault_number fault) 74 75 (omega arith)
     (omega arith) (omega arith) h.number
 of_rule test path earlier s fault (inr h) =
-    between (has_address s.prefix h.reservation.address) (config_fault_number fault) 74 76
+    between (lies_in s.prefix h.reservation.address) (config_fault_number fault) 74 76
     (omega arith) (omega arith) (omega arith) h.number
 
 rule_number : (subnets : List Subnet) (fault : ConfigFault)

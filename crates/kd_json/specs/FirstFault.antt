@@ -14,7 +14,7 @@ use Rattle.kd_json.specs.declared.objects.settings.Settings.{Settings}
 use Rattle.kd_config.specs.declared.pool.Pool.{Pool}
 use Rattle.kd_config.specs.declared.prefix.Prefix.{Prefix}
 use Rattle.kd_config.specs.declared.reservation.Identity.{Identity}
-use Rattle.kd_config.specs.declared.reservation.Identity.TheVariants.{Hardware, ClientId}
+use Rattle.kd_config.specs.declared.reservation.Identity.TheVariants as clients
 use Rattle.kd_config.specs.declared.reservation.Reservation.{Reservation}
 use Rattle.kd_config.specs.declared.subnet.Subnet.{Subnet}
 
@@ -24,11 +24,18 @@ path_below path key = path ++ 47 ∷ key
 
 -- the key that a client is given at
 abbrev pub client_key : Identity → List ℕ
-client_key (Hardware bytes) = codes "hw-address"
-client_key (ClientId bytes) = codes "client-id"
+client_key (clients.Hardware bytes) = codes "hw-address"
+client_key (clients.Duid bytes) = codes "duid"
+client_key (clients.Circuit bytes) = codes "circuit-id"
+client_key (clients.ClientId bytes) = codes "client-id"
 
--- the key of what is wrong with a reservation: its address, or its client if the address may be
--- reserved after earlier ones
+-- an address, if there is one, is of the prefix
+abbrev pub lies_in : Prefix → Option ℕ → Bool
+lies_in prefix None = true
+lies_in prefix (Some a) = has_address prefix a
+
+-- the key of what is wrong with a reservation: its address, or its client if there is no address
+-- or it may be reserved after earlier ones
 abbrev pub wrong_key : Prefix → List ℕ → Reservation → List ℕ
 wrong_key prefix earlier r =
     if may_reserve prefix earlier r then client_key r.identity else codes "ip-address"
@@ -84,7 +91,7 @@ pub record ReservationFails (test : List Reservation → Bool) (path earlier : L
   pub reservation : Reservation
   pub first : FailsAt test reservations place reservation
   pub number : config_fault_number fault
-      ≡ (if has_address prefix reservation.address then 76 else 74)
+      ≡ (if lies_in prefix reservation.address then 76 else 74)
   pub named : fault_path fault ≡ path_below (path_below path (decimal place))
       (wrong_key prefix (earlier ++ reserved (take place reservations)) reservation)
 

@@ -1,6 +1,6 @@
 -- Helpers of private contracts: keys as borrowed texts, clients as borrowed bytes, subnets whose
 -- pools are apart up to a number, and the faults of parts of a configuration.
-use Rattle.std.specs.Prelude.{ℕ, Bool, ◌&&◌, if◌then◌else◌, List, [], ◌∷◌, ◌++◌, length, bytes_eq, is_some, nat_le}
+use Rattle.std.specs.Prelude.{ℕ, Bool, ◌&&◌, List, [], ◌∷◌, ◌++◌, length, bytes_eq, is_some, nat_le}
 use Rattle.std.specs.Borrow.{Bor}
 use Rattle.std.specs.Fmt.{decimal}
 use Rattle.std.specs.List.{list_all, list_any}
@@ -16,7 +16,9 @@ use Rattle.kd_json.specs.declared.objects.faults.SettingsFault.TheVariants as se
 use Rattle.kd_config.specs.declared.pool.Pool.{Pool}
 use Rattle.kd_config.specs.declared.prefix.Prefix.{Prefix}
 use Rattle.kd_config.specs.declared.reservation.Identity.{Identity}
-use Rattle.kd_config.specs.declared.reservation.Identity.TheVariants.{Hardware, ClientId}
+use Rattle.kd_config.specs.declared.reservation.Identity.TheVariants as clients
+use Rattle.kd_json.specs.declared.rules.reservations.ClientKey.{ClientKey}
+use Rattle.kd_json.specs.declared.rules.reservations.ClientKey.TheVariants as client_keys
 use Rattle.kd_json.specs.declared.rules.place.Place.{Place}
 use Rattle.kd_json.specs.declared.rules.place.Place.TheVariants as places
 use Rattle.kd_config.specs.declared.subnet.Subnet.{Subnet}
@@ -29,9 +31,12 @@ is_one_of known key = list_any (λ k. bytes_eq key k.now) known
 abbrev pub is_there : Data → Bor (List ℕ) → Bool
 is_there d key = is_some (get key.now d)
 
--- the client with these bytes, which are a hardware address or an identifier
-abbrev pub client_by : Bool × Bor (List ℕ) → Identity
-client_by key = if key.0 then Hardware key.1.now else ClientId key.1.now
+-- the client with these bytes, by the same kind of identity
+abbrev pub client_by : ClientKey → Identity
+client_by (client_keys.Hardware bytes) = clients.Hardware bytes.now
+client_by (client_keys.Duid bytes) = clients.Duid bytes.now
+client_by (client_keys.Circuit bytes) = clients.Circuit bytes.now
+client_by (client_keys.ClientId bytes) = clients.ClientId bytes.now
 
 -- subnets obey the rules after reserved addresses, and have at most `apart` pools
 abbrev pub obey_within : ℕ → List ℕ → List Subnet → Bool

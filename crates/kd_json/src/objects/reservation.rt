@@ -35,7 +35,7 @@ impl EntryReader for ReservationReader {
         match value.get("ip-address").and_then(address_in) {
             Some(address) => Ok(Reservation {
                 identity,
-                address,
+                address: Some(address),
                 options: OptionList::own(Vec::new(alloc)),
                 boots: BootList::own(Vec::new(alloc)),
             }),
