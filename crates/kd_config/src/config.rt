@@ -162,7 +162,7 @@ impl Config {
     }
 
     /// Reports whether any subnet has a reservation.
-    pub fn has_reservations(&self) -> bool
+    pub fn reserves_any(&self) -> bool
         ensures { result ≡ list_any has_reservations self.now.subnets }
     {
         self.reserves

@@ -160,7 +160,7 @@ pub fn reservation_options<'a>(
 pub fn is_reserved(config: &Config, address: u32) -> bool
     ensures { result ≡ reserved_anywhere config.now address }
 {
-    if config.has_reservations() {
+    if config.reserves_any() {
         are_keeping(address, config.subnets())
     } else {
         false
