@@ -13,6 +13,7 @@ use Rattle.kd_config.specs.Networks.{network_of, part_holding, reservations_with
 use Rattle.kd_config.specs.Sound.{IsBoot, IsClass, IsSound}
 use Rattle.kd_config.specs.declared.reservation.Reservation.{Reservation}
 use Rattle.kd_config.specs.declared.subnet.Subnet.{Subnet}
+use Rattle.kd_lease.specs.Kept.{reservation_at}
 use Rattle.kd_lease.specs.Booting.{boots_given, boots_reserved, class_boots, fields_in, fields_of, reply_fields}
 use Rattle.kd_lease.specs.Choice.{Asking, is_from}
 use Rattle.kd_lease.specs.Rules.{serving_subnet}
@@ -23,6 +24,7 @@ use Rattle.kd_machine.specs.Parts.{is_held}
 use Rattle.kd_options.specs.Laws.{IsField}
 use Rattle.kd_options.specs.Message.{AreBytes, Seen}
 use Rattle.kd_laws.proofs.Homes.{Serves, ServesClient, all_serve, at_part, at_serving, each-append, find-each, flat-each, part_serves, serving_serves}
+use Rattle.kd_laws.proofs.Hosts.{counting_each}
 use Rattle.kd_laws.specs.Unbooted.{BootFieldsAreZero, GivesNoBoot, IsUnbooted}
 
 -- ---- sizes

@@ -1,6 +1,6 @@
 -- The subnet in which a message is served, be it a subnet of the configuration or a shared network
 -- as one: its addresses have 32 bits, and its options are such as may be configured.
-use Rattle.std.proofs.Common.{◌≡◌, ℕ, zero, suc, ◌+◌, ◌-◌, ◌^◌, ◌<◌, Bool, true, false, ◌&&◌, ◌==◌, nat_eq, nat_le, nat_lt, not, List, [], ◌∷◌, ◌++◌, Option, None, Some, if◌then◌else◌, map, slice_get, arith}
+use Rattle.std.proofs.Common.{◌≡◌, ℕ, zero, suc, ◌+◌, ◌-◌, ◌^◌, ◌<◌, Bool, true, false, ◌&&◌, ◌==◌, nat_eq, nat_le, nat_lt, not, List, [], ◌∷◌, ◌++◌, Option, None, Some, if◌then◌else◌, map, slice_get, subst, arith}
 use Rattle.std.specs.Prelude.{IfSome, option_map}
 use Rattle.std.specs.Option.{option_or}
 use Rattle.std.specs.List.{AllByRecursion, find, flat_map, list_all, list_any, range_with_len}
@@ -9,10 +9,11 @@ use Rattle.kd_config.specs.Address.{has_address, prefix_size}
 use Rattle.kd_config.specs.Apart.{lie_apart}
 use Rattle.kd_config.specs.Configuration.{Configuration}
 use Rattle.kd_config.specs.Networks.{home_of, is_part, network_at, network_count, network_of, networks_in, part_holding, pool_for, pools_within, reservations_within, value_or}
-use Rattle.kd_config.specs.Rules.{all_obey, is_new, lies_within, may_all_reserve, may_reserve, may_stand, obeys, pool_ranges, reserved}
+use Rattle.kd_config.specs.Rules.{all_obey, is_new, lies_within, may_all_reserve, may_have, may_reserve, may_stand, obeys, pool_ranges, reserved}
 use Rattle.kd_config.specs.Sound.{AreOptions, IsBoot, IsPool, IsPrefix, IsReservation, IsSound, IsSubnet}
 use Rattle.kd_config.specs.declared.pool.Pool.{Pool}
 use Rattle.kd_config.specs.declared.prefix.Prefix.{Prefix}
+use Rattle.kd_config.specs.Reservation.{listed}
 use Rattle.kd_config.specs.declared.reservation.Identity.{Identity}
 use Rattle.kd_config.specs.declared.reservation.Reservation.{Reservation}
 use Rattle.kd_config.specs.declared.subnet.Subnet.{Subnet}

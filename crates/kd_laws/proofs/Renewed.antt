@@ -178,13 +178,13 @@ kept_there : (subnets : List Subnet) (a : ℕ) (s : Subnet) → subnet_keeping s
 kept_there subnets a s is = by (find (has_to_keep a) subnets) refl is where
   by : (o : Option Subnet) → find (has_to_keep a) subnets ≡ o → option_map (home_of subnets) o ≡ Some s → (t : Subnet) × (find (has_to_keep a) subnets ≡ Some t) × (home_of subnets t ≡ s)
   by None e h = absurd (none-some s h)
-  by (Some t) e h = (t, (e, same_Some (home_of subnets t) s h))
+  by (Some t) e h = (t, e, same_Some (home_of subnets t) s h)
 
 -- also behind a circuit
 pub circuits_kept : EndsDecide → CircuitsKeepLeases
 circuits_kept decide q s set outcome keeps renews there reserved does =
     let a = q.message.header.ciaddr in
     let first = kept_there q.config.subnets a s there in
-    let some : is_some (circuit_reservation (home_of q.config.subnets first.0) a) ≡ true = ap (λ (t : Subnet). is_some (circuit_reservation t a)) first.1.1 ∙ reserved in
-    begins_anew q keeps renews (first.0, first.1.0)
+    let some : is_some (circuit_reservation (home_of q.config.subnets first.0) a) ≡ true = ap (λ (t : Subnet). is_some (circuit_reservation t a)) first.2 ∙ reserved in
+    begins_anew q keeps renews (first.0, first.1)
     (or_right (contained (home_of q.config.subnets first.0) a && not (reserved_anywhere q.config a)) (is_some (circuit_reservation (home_of q.config.subnets first.0) a)) some) decide set outcome does
