@@ -1,13 +1,13 @@
 -- The lines of what the rules check (RFC 2131 section 4.3), up to the check at which a message
 -- ends.
-use Rattle.std.specs.Prelude.{◌≡◌, ℕ, ◌==◌, nat_lt, Bool, if◌then◌else◌, List, [], ◌∷◌, ◌++◌, Option, Some, None, Result, Err, codes}
+use Rattle.std.specs.Prelude.{◌≡◌, ℕ, ◌==◌, nat_lt, Bool, if◌then◌else◌, List, [], ◌∷◌, ◌++◌, Option, Some, None, is_some, Result, Err, codes}
 use Rattle.std.specs.List.{flat_map}
 use Rattle.kd_config.specs.declared.subnet.Subnet.{Subnet}
 use Rattle.kd_event.specs.declared.reason.Reason.{Reason}
 use Rattle.kd_event.specs.declared.reason.Reason.TheVariants as reasons
 use Rattle.kd_lease.specs.Choice.{Asking, address_reserved, contained, pooled, reserved_anywhere, same_address}
 use Rattle.kd_lease.specs.Client.{kind_of, named_server}
-use Rattle.kd_lease.specs.Kept.{passes}
+use Rattle.kd_lease.specs.Kept.{circuit_reservation, passes}
 use Rattle.kd_lease.specs.Rules.{IsAbout, checks_in, ending, fails, holds_at, kept_subnet, passes_in, rule_of, serving_subnet}
 use Rattle.kd_lease.specs.declared.plan.Plan.{Plan}
 use Rattle.kd_lease.specs.declared.rule.Check.{Check}
@@ -121,18 +121,24 @@ pool_word is_given is_in =
     if is_given then codes "in a pool"
     else if is_in then codes "in a pool of another class" else codes "in no pool"
 
--- whom the address is reserved for: the client, or anybody
-abbrev pub reserved_word : Bool → Bool → List ℕ
-reserved_word is_its is_reserved =
+-- the reservation of an address in a subnet is for a circuit
+abbrev pub reserved_for_circuit : Subnet → ℕ → Bool
+reserved_for_circuit s a = is_some (circuit_reservation s a)
+
+-- whom the address is reserved for: the client, or else a circuit, or else anybody
+abbrev pub reserved_word : Bool → Bool → Bool → List ℕ
+reserved_word is_its is_circuits is_reserved =
     if is_its then codes "reserved for the client"
+    else if is_circuits then codes "reserved for a circuit"
     else if is_reserved then codes "reserved otherwise" else codes "not reserved"
 
 -- the pool and the reservation of the address in the subnet that serves the message
 abbrev pub place_words : Asking → Option Subnet → Option ℕ → List ℕ
 place_words q s a =
     pool_word (passes_in (pooled q.names) s a) (passes_in contained s a) ++ codes ", "
-    ++ reserved_word (passes_in (λ t b. same_address (address_reserved q.message t) b) s a)
-    (passes (reserved_anywhere q.config) a)
+    ++ reserved_word
+    (passes_in (λ t b. same_address (address_reserved q.config q.message t) b) s a)
+    (passes_in reserved_for_circuit s a) (passes (reserved_anywhere q.config) a)
 
 -- whether it fits
 abbrev pub fit_words : Bool → List ℕ

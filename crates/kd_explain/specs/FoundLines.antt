@@ -171,12 +171,14 @@ served_lines (Some kept) config names m =
 -- the configuration key by which a client is named
 abbrev pub key_word : Identity → List ℕ
 key_word (identities.Hardware bytes) = codes "hw-address"
+key_word (identities.Duid bytes) = codes "duid"
+key_word (identities.Circuit bytes) = codes "circuit-id"
 key_word (identities.ClientId bytes) = codes "client-id"
 
--- the line of a reservation
+-- the line of a reservation: its address, if it has one, and the key by which its client is named
 unfoldable pub reserved_line : Reservation → List ℕ
 reserved_line reservation =
-    codes "reservation " ++ address_text reservation.address ++ codes " by "
+    codes "reservation " ++ address_word reservation.address ++ codes " by "
     ++ key_word reservation.identity ++ codes "\n"
 
 -- the line of the reservation for the client, if a subnet serves the message

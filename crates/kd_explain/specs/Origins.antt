@@ -28,7 +28,7 @@ class_has classes names code i = has_code code (options_of_class classes names i
 -- network, subnet, network and mask are those of the subnet in it that has the address
 abbrev pub options_from : Configuration → Subnet → List (List ℕ) → Seen → ℕ → Origin
     → List OptionData
-options_from config s names m a origins.Reservation = reserved_options m s
+options_from config s names m a origins.Reservation = reserved_options config m s a
 options_from config s names m a origins.Pool = options_of_pool s.pools a
 options_from config s names m a origins.Subnet = (part_holding config.subnets s a).options
 options_from config s names m a origins.Network = (part_holding config.subnets s a).shared

@@ -1,11 +1,12 @@
 ghost use Rattle.std.specs.Prelude.{◌≡◌, ℕ, ◌<◌, ◌∷◌, [], MatchOption, false, length, true};
-ghost use Rattle.kd_lease.specs.Booting.{class_boots, reserved_boots};
+ghost use Rattle.std.specs.Option.{option_copied};
+ghost use Rattle.kd_lease.specs.Booting.{boots_reserved, class_boots};
 ghost use Rattle.kd_explain.specs.BootLines.{IsBootOrigin, class_gives, gives_field, one_gives};
 
 use crate::origins::Origin;
 use kd_classes::{Boot, ClassDef, Classes};
-use kd_config::{Config, Subnet};
-use kd_lease::reservation_of;
+use kd_config::{Config, Reservation, Subnet};
+use kd_lease::reservation_for;
 use kd_machine::Held;
 use kd_options::Message;
 
@@ -34,7 +35,7 @@ pub fn boot_origin_of(
 ) -> Option<Origin>
     ensures { IsBootOrigin config.now subnet.now names.now message.now address field result }
 {
-    if reservation_gives(message, subnet, field) {
+    if host_gives(reservation_for(config, message, subnet, address), field) {
         return Some(Origin::Reservation);
     }
     if let Some(index) = class_giving(config.classes(), names, field) {
@@ -48,11 +49,11 @@ pub fn boot_origin_of(
     }
 }
 
-// Reports whether the reservation for the client of a message gives a value to a field.
-fn reservation_gives(message: &Message<'_>, subnet: &Subnet, field: BootField) -> bool
-    ensures { result ≡ one_gives field (reserved_boots message.now subnet.now) }
+// Reports whether there is a reservation and it gives a value to a field.
+fn host_gives(reservation: Option<&Reservation>, field: BootField) -> bool
+    ensures { result ≡ one_gives field (boots_reserved (option_copied reservation.entry)) }
 {
-    match reservation_of(message, subnet) {
+    match reservation {
         Some(reservation) => any_gives(reservation.boots.as_slice(), field),
         None => false,
     }

@@ -1,15 +1,16 @@
-ghost use Rattle.std.specs.Prelude.{◌≡◌, ◌++◌, OnOk, Some, codes, option_copied, string_bytes};
+ghost use Rattle.std.specs.Prelude.{◌≡◌, ◌++◌, OnOk, Some, codes, is_some, option_copied, string_bytes};
+ghost use Rattle.kd_config.specs.Reservation.{has_reserved};
 ghost use Rattle.kd_lease.specs.Choice.{address_reserved, contained, pooled, reserved_anywhere, same_address};
-ghost use Rattle.kd_lease.specs.Kept.{passes};
+ghost use Rattle.kd_lease.specs.Kept.{if_for_circuit, passes};
 ghost use Rattle.kd_lease.specs.Rules.{asking, kept_subnet, passes_in, serving_subnet};
 ghost use Rattle.kd_listing.specs.Leases.{word_of_live};
 ghost use Rattle.kd_text.specs.Text.{address_text};
 ghost use Rattle.kd_explain.specs.CheckLines.{address_line, address_source, fit_words, fits_line, free_line, held_line, kept_words, known_line, lasts_line, network_word, offer_line, owner_line};
-ghost use Rattle.kd_explain.specs.CheckLines.{place_words, pool_word, prefix_line, renewed_source, reserved_word, row_line_at, row_words};
+ghost use Rattle.kd_explain.specs.CheckLines.{place_words, pool_word, prefix_line, renewed_source, reserved_for_circuit, reserved_word, row_line_at, row_words};
 ghost use Rattle.kd_explain.specs.CheckLines.{sender_line, served_line, served_word, server_line, which_word};
 
 use crate::words::{type_name, yes_or_no};
-use kd_config::Subnet;
+use kd_config::{Identity, Reservation, Subnet};
 use kd_lease::{Matter, Question, Rule, contains, in_pools, is_reserved, reservation_of};
 use kd_listing::put_row;
 use kd_options::Message;
@@ -387,12 +388,15 @@ fn is_in_range(question: &Question<'_>, address: Option<u32>) -> bool
 fn reserved_phrase(question: &Question<'_>, address: Option<u32>) -> &'static str
     ensures { let q = asking question.now in
         result.now ≡ reserved_word
-        (passes_in (λ s a. same_address (address_reserved q.message s) a) (serving_subnet q)
-        address)
+        (passes_in (λ s a. same_address (address_reserved q.config q.message s) a)
+        (serving_subnet q) address)
+        (passes_in reserved_for_circuit (serving_subnet q) address)
         (passes (reserved_anywhere q.config) address) }
 {
     if is_its(question, address) {
         "reserved for the client"
+    } else if is_for_circuit(question, address) {
+        "reserved for a circuit"
     } else if is_withheld(question, address) {
         "reserved otherwise"
     } else {
@@ -403,21 +407,63 @@ fn reserved_phrase(question: &Question<'_>, address: Option<u32>) -> &'static st
 // Reports whether an address is reserved for the client in the subnet that serves its message.
 fn is_its(question: &Question<'_>, address: Option<u32>) -> bool
     ensures { let q = asking question.now in
-        result ≡ passes_in (λ s a. same_address (address_reserved q.message s) a)
+        result ≡ passes_in (λ s a. same_address (address_reserved q.config q.message s) a)
         (serving_subnet q) address }
 {
     match (question.subnet, address) {
-        (Some(subnet), Some(address)) => is_reserved_for(question.message, subnet, address),
+        (Some(subnet), Some(address)) => is_reserved_for(question, subnet, address),
         _ => false,
     }
 }
 
-fn is_reserved_for(message: &Message<'_>, subnet: &Subnet, address: u32) -> bool
-    ensures { result ≡ same_address (address_reserved message.now subnet.now) address }
+fn is_reserved_for(question: &Question<'_>, subnet: &Subnet, address: u32) -> bool
+    ensures { let q = asking question.now in
+        result ≡ same_address (address_reserved q.config q.message subnet.now) address }
 {
-    match reservation_of(message, subnet) {
-        Some(reservation) => reservation.address == address,
+    match reservation_of(question.config, question.message, subnet) {
+        Some(reservation) => is_of_address(reservation, address),
         None => false,
+    }
+}
+
+// Reports whether a reservation has this address.
+fn is_of_address(reservation: &Reservation, address: u32) -> bool
+    ensures { result ≡ has_reserved address reservation.now }
+{
+    match reservation.address {
+        Some(own) => own == address,
+        None => false,
+    }
+}
+
+// Reports whether the reservation of an address, in the subnet that serves a message, is for a
+// circuit.
+fn is_for_circuit(question: &Question<'_>, address: Option<u32>) -> bool
+    ensures { result
+        ≡ passes_in reserved_for_circuit (serving_subnet (asking question.now)) address }
+{
+    match (question.subnet, address) {
+        (Some(subnet), Some(address)) => is_circuits(subnet, address),
+        _ => false,
+    }
+}
+
+fn is_circuits(subnet: &Subnet, address: u32) -> bool
+    ensures { result ≡ reserved_for_circuit subnet.now address }
+{
+    match subnet.reservations.of_address(address) {
+        Some(reservation) => names_circuit(reservation),
+        None => false,
+    }
+}
+
+// Reports whether a reservation is for a circuit.
+fn names_circuit(reservation: &Reservation) -> bool
+    ensures { result ≡ is_some (if_for_circuit (Some reservation.now)) }
+{
+    match reservation.identity {
+        Identity::Circuit(_) => true,
+        _ => false,
     }
 }
 

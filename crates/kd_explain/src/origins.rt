@@ -12,7 +12,8 @@ use kd_options::Message;
 /// Configuration and Client Classification).
 #[derive(Clone, Copy, PartialEq, Eq)]
 pub enum Origin {
-    /// The client's reservation.
+    /// The reservation that counts for the reply: that for the client, or for a renewal without a
+    /// relay, that of the address for a circuit.
     Reservation,
     /// The pool that has the address.
     Pool,
@@ -43,7 +44,7 @@ pub fn origin_of(
 ) -> Option<Origin>
     ensures { IsOrigin config.now subnet.now names.now message.now address code result }
 {
-    if lists(reservation_options(message, subnet), code) {
+    if lists(reservation_options(config, message, subnet, address), code) {
         return Some(Origin::Reservation);
     }
     if lists(pool_options(subnet, address), code) {

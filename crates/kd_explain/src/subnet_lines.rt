@@ -5,7 +5,7 @@ ghost use Rattle.kd_explain.specs.FoundLines.{class_word, elsewhere_words, heade
 ghost use Rattle.kd_explain.specs.FoundLines.{reservation_line, reserved_line, shares_network, sought_line, sought_lines, served_lines};
 
 use crate::text::Scene;
-use crate::words::put_name;
+use crate::words::{put_address_or_dash, put_name};
 use kd_config::{Config, Identity, Reservation, Subnet};
 use kd_lease::{comes_by_relay, is_at, is_to_keep, link_selected, place_of, serves};
 use kd_machine::Held;
@@ -280,7 +280,7 @@ fn put_reserved(out: &mut String, reservation: &Reservation) -> Result<(), Alloc
         ≡ string_bytes out.old ++ reserved_line reservation.now) }
 {
     out.push_str("reservation ")?;
-    put_address(out, reservation.address)?;
+    put_address_or_dash(out, reservation.address)?;
     out.push_str(" by ")?;
     out.push_str(identity_key(&reservation.identity))?;
     out.push_str("\n")?;
@@ -293,6 +293,8 @@ fn identity_key(identity: &Identity) -> &'static str
 {
     match identity {
         Identity::Hardware(_) => "hw-address",
+        Identity::Duid(_) => "duid",
+        Identity::Circuit(_) => "circuit-id",
         Identity::ClientId(_) => "client-id",
     }
 }
