@@ -15,6 +15,7 @@ pub mod SoundNames
 pub mod Parts
 pub mod SoundParts
 pub mod SoundBoot
+pub mod SoundClients
 pub mod SoundSubnets
 pub mod SoundNetworks
 pub mod SoundKea
@@ -24,6 +25,7 @@ pub mod NoUnknown
 pub mod NoneWrong
 pub mod WorkedNotes
 pub mod WorkedNames
+pub mod WorkedClients
 pub mod WorkedBoot
 pub mod Shares
 pub mod WorkedTimes

@@ -1,11 +1,12 @@
 -- A text that describes settings has no key that is refused.
 use Rattle.std.proofs.Common.{◌≡◌, ℕ, ◌+◌, Bool, true, false, List, [], ◌∷◌, ◌++◌, map, codes, Option, Some, None, refl, sym, ap, ◌∙◌, subst, true≢false}
-use Rattle.std.specs.List.{list_any}
+use Rattle.std.specs.List.{flat_map, list_all, list_any}
 use Rattle.std.specs.Prelude.{◌||◌, if◌then◌else◌, decimal, is_some, option_map}
 use Rattle.std.proofs.lemmas.List.Folds.{list_any-append}
 use Rattle.serde_json.specs.Data.{Data, Items, no_items, item}
 use Rattle.serde_json.specs.Find.{as_array, as_object, as_str, get}
-use Rattle.kd_config.proofs.Tests.{some_is}
+use Rattle.kd_config.proofs.Tests.{both_passed, some_is}
+use Rattle.kd_config.specs.declared.reservation.IdentityKind.{IdentityKind}
 use Rattle.kd_config.specs.Address.{has_address}
 use Rattle.kd_config.specs.declared.prefix.Prefix.{Prefix}
 use Rattle.kd_config.specs.declared.subnet.Subnet.{Subnet}
@@ -16,32 +17,34 @@ use Rattle.kd_json.proofs.Came.{came_from, passed, passed_only, seen_from}
 use Rattle.kd_json.specs.FirstFault.{path_below}
 use Rattle.kd_json.specs.Class.{class_name_in}
 use Rattle.kd_json.specs.Lists.{all_of, items_or_none, list_of}
-use Rattle.kd_json.specs.Reservation.{identity_given}
 use Rattle.kd_json.specs.Subnet.{subnet_prefix}
-use Rattle.kd_json.specs.Values.{address_given, number_if_given, text_if_given}
+use Rattle.kd_json.specs.Values.{number_if_given, text_if_given}
 use Rattle.kd_json.specs.declared.objects.settings.Settings.{Settings}
 use Rattle.kd_kea.specs.Boot.{kea_boot, own_boot}
 use Rattle.kd_kea.specs.Class.{kea_class_options, kea_class}
 use Rattle.kd_kea.specs.Definitions.{are_apart, kea_definition, kea_definitions, kea_known, standard_records, usual_vendor}
 use Rattle.kd_kea.specs.Kea.{kea_settings}
+use Rattle.kd_kea.specs.HostClient.{kea_client}
+use Rattle.kd_kea.specs.HostKinds.{are_all_found, is_found_if_given, kind_key, kinds_given, kinds_in_order}
 use Rattle.kd_kea.specs.HostName.{has_bare_names, host_name, host_options, may_be_named, server_has_bare_names}
 use Rattle.kd_kea.specs.Keys.{keys_are_read}
-use Rattle.kd_kea.specs.Notes.{KeyNote, ObjectNotes, above_by, all_subnet_notes, around_members, around_of, beside_note, boot_in, boot_notes, inherited_notes, inside_notes, kea_inside, network_below, network_lists, network_notes, network_own, network_values, outside_in, prefix_given, class_notes, data_notes, definition_note, definition_notes, each_described, flag_note, have_refused, host_notes, is_not_failed, is_served_if_given, item_notes, items_of, kea_below, kea_beside, kea_notes, kea_value, usable_definitions, list_notes, listed_notes, lists_by, name_notes, note_on_name, note_unless, notes_at, notes_of_each, number_note, object_notes, option_notes, or_wrong, own_notes, pool_notes, relay_notes, right_definitions, root_notes, server_lists, server_flags, server_notes, server_times, server_values, subnet_lists, subnet_notes, subnet_own, subnet_values, text_note, all_times, value_notes, with_first, required_notes}
+use Rattle.kd_kea.specs.Notes.{KeyNote, ObjectNotes, above_by, all_subnet_notes, around_members, around_of, beside_note, boot_in, boot_notes, inherited_notes, inside_notes, kea_inside, network_below, network_lists, network_notes, network_own, network_values, outside_in, prefix_given, class_notes, data_notes, definition_note, definition_notes, each_described, flag_note, have_refused, host_notes, host_values, is_not_failed, kind_notes, is_served_if_given, item_notes, items_of, kea_below, kea_beside, kea_notes, kea_value, usable_definitions, list_notes, listed_notes, lists_by, name_notes, note_on_name, note_unless, notes_at, notes_of_each, number_note, object_notes, option_notes, or_wrong, own_notes, pool_notes, relay_notes, right_definitions, root_notes, server_lists, server_flags, server_notes, server_times, server_values, subnet_lists, subnet_notes, subnet_own, subnet_values, text_note, all_times, value_notes, with_first, required_notes}
 use Rattle.kd_kea.specs.Network.{above_members, as_member, has_network_form, is_in_one_of, is_interface_of, kea_common, kea_member, kea_network, kea_subnets, may_be_of, one_class}
 use Rattle.kd_kea.specs.Options.{is_served_space, kea_entry, kea_options, server_address}
 use Rattle.kd_kea.specs.Parts.{parts_of_all}
 use Rattle.kd_kea.specs.Pool.{kea_pool, kea_range, may_require}
 use Rattle.kd_kea.specs.Policy.{kea_policy, repeats_policy}
-use Rattle.kd_kea.specs.Reservation.{kea_reservation}
+use Rattle.kd_kea.specs.Reservation.{address_if_given, kea_reservation}
 use Rattle.kd_kea.specs.Settings.{has_server_form, kea_dhcp4, kea_root, kea_settings_with}
 use Rattle.kd_kea.specs.Relay.{kea_relay, relays_of}
 use Rattle.kd_kea.specs.Subnet.{has_subnet_form, is_at_server, kea_subnet, kea_subnet_with, stand_beside}
 use Rattle.kd_kea.specs.Tables.{class_keys, data_keys, definition_keys, host_keys, network_keys, pool_keys, relay_keys, root_keys, server_keys, subnet_keys}
 use Rattle.kd_kea.specs.Times.{has_usual_shares, kea_times, repeats_times, shares_given}
-use Rattle.kd_kea.specs.Values.{flag_given, flag_or, is_whole_if_given, text_otherwise, unless_empty}
+use Rattle.kd_kea.specs.Values.{flag_given, flag_or, text_otherwise, unless_empty}
 use Rattle.kd_kea.specs.declared.notes.NoteKind.TheVariants.{Unknown, Wrong}
 use Rattle.kd_kea.specs.declared.notes.around.Around.{Around}
 use Rattle.kd_kea.specs.declared.objects.definition.Definition.{Definition}
+use Rattle.kd_kea.specs.declared.objects.host_kinds.HostKinds.{HostKinds}
 use Rattle.kd_kea.specs.declared.objects.network.Common.{Common}
 use Rattle.kd_kea.specs.declared.objects.policy.Policy.{Policy}
 use Rattle.kd_kea.specs.declared.objects.subnet.Above.{Above}
@@ -185,24 +188,38 @@ host_options_pass known bare path d options e =
       options = options_pass false known d own.first path own.is;
     }
 
-host_pass : (known : List Definition) (bare : Bool) → NoneRefused (kea_reservation known bare) (host_notes known bare)
-unfolding kea_reservation host_notes
-host_pass known bare d r path e =
+-- the kinds of identity of a reservation
+kinds_pass_by : (found : HostKinds) (path : List ℕ) (d : Data) (kinds : List IdentityKind) → list_all (is_found_if_given found d) kinds ≡ true
+    → have_refused (flat_map (λ kind. note_unless (is_found_if_given found d kind) Unknown path (kind_key kind)) kinds) ≡ false
+kinds_pass_by found path d [] e = refl
+kinds_pass_by found path d (kind ∷ kinds) e =
+    let both = both_passed (is_found_if_given found d kind) (list_all (is_found_if_given found d) kinds) e in
+    none_in_both (note_unless (is_found_if_given found d kind) Unknown path (kind_key kind))
+    (flat_map (λ kind. note_unless (is_found_if_given found d kind) Unknown path (kind_key kind)) kinds)
+    (unless_none (is_found_if_given found d kind) Unknown path (kind_key kind) both.0)
+    (kinds_pass_by found path d kinds both.1)
+
+kinds_pass : (found : HostKinds) (path : List ℕ) (d : Data) → are_all_found found d ≡ true → have_refused (kind_notes found path d) ≡ false
+kinds_pass found path d e = kinds_pass_by found path d kinds_in_order e
+
+host_pass : (known : List Definition) (kinds : HostKinds) (bare : Bool) → NoneRefused (kea_reservation known kinds bare) (host_notes known kinds bare)
+unfolding kea_reservation host_notes host_values
+host_pass known kinds bare d r path e =
     let keys = passed (keys_are_read host_keys d) _ r e in
-    let hardware = passed (is_whole_if_given (get (codes "hw-address") d)) _ r keys.1 in
-    let client = passed (is_whole_if_given (get (codes "client-id") d)) _ r hardware.1 in
-    let identity = came_from (identity_given d) _ r client.1 in
-    let address = came_from (get (codes "ip-address") d >>= address_given) _ r identity.gives in
+    let found = passed (are_all_found kinds d) _ r keys.1 in
+    let client = came_from (kea_client d) _ r found.1 in
+    let address = came_from (address_if_given (get (codes "ip-address") d)) _ r client.gives in
     let options = came_from (host_options known bare d) _ r address.gives in
     let boot = came_from (own_boot d) _ r options.gives in
     let given = host_options_pass known bare path d options.first options.is in
     let keyed = own_notes host_keys path d in
-    let of_name = name_notes bare path d in
+    let values = host_values kinds bare path d in
     let of_boot = boot_notes path d in
-    object_none (kea_reservation known bare d) r path d (keyed ++ of_name ++ of_boot ++ option_notes false known path d) e (is_object host_keys d keys.0)
-    (none_in_both (keyed ++ of_name ++ of_boot) (option_notes false known path d)
-    (none_in_both (keyed ++ of_name) of_boot
-    (none_in_both keyed of_name (own_pass host_keys path d keys.0) given.name)
+    object_none (kea_reservation known kinds bare d) r path d (keyed ++ values ++ of_boot ++ option_notes false known path d) e (is_object host_keys d keys.0)
+    (none_in_both (keyed ++ values ++ of_boot) (option_notes false known path d)
+    (none_in_both (keyed ++ values) of_boot
+    (none_in_both keyed values (own_pass host_keys path d keys.0)
+    (none_in_both (kind_notes kinds path d) (name_notes bare path d) (kinds_pass kinds path d found.0) given.name))
     (own_boot_pass path d boot.first boot.is)) given.options)
 
 class_pass : (known : List Definition) → NoneRefused (kea_class known) (class_notes known)
@@ -255,20 +272,20 @@ subnet_form above d e =
     record { keys = keys.0; times = times.is; policy = policy.0; id = ap is_some id.is }
 
 -- the lists, the relay and the boot fields of a subnet
-record ListsPass (known : List Definition) (bare : Bool) (path : List ℕ) (d : Data) : Type 0 where
+record ListsPass (known : List Definition) (kinds : HostKinds) (bare : Bool) (path : List ℕ) (d : Data) : Type 0 where
   options : have_refused (option_notes false known path d) ≡ false
   relay : have_refused (notes_at relay_notes path (codes "relay") d) ≡ false
   pools : have_refused (listed_notes 64 (pool_notes known) (codes "pools") path d) ≡ false
-  hosts : have_refused (listed_notes 4096 (host_notes known bare) (codes "reservations") path d) ≡ false
+  hosts : have_refused (listed_notes 4096 (host_notes known kinds bare) (codes "reservations") path d) ≡ false
   boot : have_refused (boot_notes path d) ≡ false
 
-subnet_lists_pass : (known : List Definition) (bare outside : Bool) (above : Boot) (prefix : Prefix) (class : Option (List ℕ)) (path : List ℕ) (d : Data) (subnet : Subnet) → kea_subnet_with known bare outside above prefix class d ≡ Some subnet → ListsPass known bare path d
+subnet_lists_pass : (known : List Definition) (kinds : HostKinds) (bare outside : Bool) (above : Boot) (prefix : Prefix) (class : Option (List ℕ)) (path : List ℕ) (d : Data) (subnet : Subnet) → kea_subnet_with known kinds bare outside above prefix class d ≡ Some subnet → ListsPass known kinds bare path d
 unfolding kea_subnet_with
-subnet_lists_pass known bare outside above prefix class path d subnet e =
+subnet_lists_pass known kinds bare outside above prefix class path d subnet e =
     let relays = came_from (relays_of (get (codes "relay") d)) _ subnet e in
     let parts = came_from (list_of 64 (kea_pool known) (get (codes "pools") d) >>= parts_of_all) _ subnet relays.gives in
     let pools = came_from (list_of 64 (kea_pool known) (get (codes "pools") d)) parts_of_all parts.first parts.is in
-    let hosts = came_from (list_of 4096 (kea_reservation known bare) (get (codes "reservations") d)) _ subnet parts.gives in
+    let hosts = came_from (list_of 4096 (kea_reservation known kinds bare) (get (codes "reservations") d)) _ subnet parts.gives in
     let beside = passed (stand_beside outside parts.first hosts.first) _ subnet hosts.gives in
     let options = came_from (kea_options false known (get (codes "option-data") d)) _ subnet beside.1 in
     let boot = came_from (kea_boot d) _ subnet options.gives in
@@ -276,25 +293,25 @@ subnet_lists_pass known bare outside above prefix class path d subnet e =
       options = options_pass false known d options.first path options.is;
       relay = relay_pass (path_below path (codes "relay")) (get (codes "relay") d) relays.first relays.is;
       pools = listed_pass 64 (kea_pool known) (pool_notes known) (pool_pass known) (codes "pools") path d pools.first pools.is;
-      hosts = listed_pass 4096 (kea_reservation known bare) (host_notes known bare) (host_pass known bare) (codes "reservations") path d hosts.first hosts.is;
+      hosts = listed_pass 4096 (kea_reservation known kinds bare) (host_notes known kinds bare) (host_pass known kinds bare) (codes "reservations") path d hosts.first hosts.is;
       boot = boot_pass path d boot.first boot.is;
     }
 
-beside_pass : (given : Option Bool) (other bare : Bool) (known : List Definition) (outside : Bool) (above : Boot) (prefix : Prefix) (class : Option (List ℕ)) (path : List ℕ) (d : Data) (subnet : Subnet) → given ≡ Some other → flag_or other (get (codes "reservations-out-of-pool") d) ≡ Some outside → kea_subnet_with known (has_bare_names bare d) outside above prefix class d ≡ Some subnet
-    → have_refused (beside_note given bare known path d) ≡ false
+beside_pass : (given : Option Bool) (kinds : HostKinds) (other bare : Bool) (known : List Definition) (outside : Bool) (above : Boot) (prefix : Prefix) (class : Option (List ℕ)) (path : List ℕ) (d : Data) (subnet : Subnet) → given ≡ Some other → flag_or other (get (codes "reservations-out-of-pool") d) ≡ Some outside → kea_subnet_with known kinds (has_bare_names bare d) outside above prefix class d ≡ Some subnet
+    → have_refused (beside_note given kinds bare known path d) ≡ false
 unfolding kea_subnet_with kea_beside
-beside_pass given other bare known outside above prefix class path d subnet e f g =
+beside_pass given kinds other bare known outside above prefix class path d subnet e f g =
     let relays = came_from (relays_of (get (codes "relay") d)) _ subnet g in
     let pools = came_from (list_of 64 (kea_pool known) (get (codes "pools") d) >>= parts_of_all) _ subnet relays.gives in
-    let hosts = came_from (list_of 4096 (kea_reservation known (has_bare_names bare d)) (get (codes "reservations") d)) _ subnet pools.gives in
+    let hosts = came_from (list_of 4096 (kea_reservation known kinds (has_bare_names bare d)) (get (codes "reservations") d)) _ subnet pools.gives in
     let beside = passed (stand_beside outside pools.first hosts.first) _ subnet hosts.gives in
-    let all_right : kea_beside given bare known d ≡ Some true =
+    let all_right : kea_beside given kinds bare known d ≡ Some true =
     bind_is given other _ true e
     (bind_is (flag_or other (get (codes "reservations-out-of-pool") d)) outside _ true f
     (bind_is (list_of 64 (kea_pool known) (get (codes "pools") d) >>= parts_of_all) pools.first _ true pools.is
-    (bind_is (list_of 4096 (kea_reservation known (has_bare_names bare d)) (get (codes "reservations") d)) hosts.first _ true hosts.is
+    (bind_is (list_of 4096 (kea_reservation known kinds (has_bare_names bare d)) (get (codes "reservations") d)) hosts.first _ true hosts.is
     (ap Some beside.0)))) in
-    unless_none (is_not_failed (kea_beside given bare known d)) Unknown path (codes "reservations-out-of-pool") (ap is_not_failed all_right)
+    unless_none (is_not_failed (kea_beside given kinds bare known d)) Unknown path (codes "reservations-out-of-pool") (ap is_not_failed all_right)
 
 subnet_own_pass : (above : Above) (path : List ℕ) (d : Data) (prefix : Prefix) (class : Option (List ℕ)) (outside : Bool) → HasSubnetForm above d → (get (codes "subnet") d >>= subnet_prefix) ≡ Some prefix → text_if_given (get (codes "client-class") d) ≡ Some class → flag_or above.outside (get (codes "reservations-out-of-pool") d) ≡ Some outside → have_refused (boot_notes path d) ≡ false
     → have_refused (subnet_own path d) ≡ false
@@ -324,16 +341,17 @@ subnet_pass above around fits known d subnet path e =
     let class = came_from (text_if_given (get (codes "client-class") d)) _ subnet link.1 in
     let outside = came_from (flag_or above.outside (get (codes "reservations-out-of-pool") d)) _ subnet class.gives in
     let bare = has_bare_names around.bare d in
-    let listed = subst (λ (b : Bool). kea_subnet_with known (has_bare_names b d) outside.first above.boot prefix.first (unless_empty class.first) d ≡ Some subnet) (sym fits.bare) outside.gives in
-    let lists = subnet_lists_pass known bare outside.first above.boot prefix.first (unless_empty class.first) path d subnet listed in
+    let listed = subst (λ (k : HostKinds). kea_subnet_with known k bare outside.first above.boot prefix.first (unless_empty class.first) d ≡ Some subnet) (sym fits.kinds)
+    (subst (λ (b : Bool). kea_subnet_with known above.kinds (has_bare_names b d) outside.first above.boot prefix.first (unless_empty class.first) d ≡ Some subnet) (sym fits.bare) outside.gives) in
+    let lists = subnet_lists_pass known around.kinds bare outside.first above.boot prefix.first (unless_empty class.first) path d subnet listed in
     let keyed = own_notes subnet_keys path d in
     let values = subnet_values around path d in
     let own = subnet_own path d in
     let options = option_notes false known path d in
     let pools = listed_notes 64 (pool_notes known) (codes "pools") path d in
-    let hosts = listed_notes 4096 (host_notes known bare) (codes "reservations") path d in
+    let hosts = listed_notes 4096 (host_notes known around.kinds bare) (codes "reservations") path d in
     let relay = notes_at relay_notes path (codes "relay") d in
-    let beside = beside_note around.outside around.bare known path d in
+    let beside = beside_note around.outside around.kinds around.bare known path d in
     object_none (kea_below (above_by around) known d) tt path d (keyed ++ values ++ own ++ beside ++ (options ++ pools ++ hosts ++ relay))
     (below_known (above_by around) above known d subnet (above_known above around fits) e) (is_object subnet_keys d form.keys)
     (none_in_both (keyed ++ values ++ own ++ beside) (options ++ pools ++ hosts ++ relay)
@@ -341,7 +359,7 @@ subnet_pass above around fits known d subnet path e =
     (none_in_both (keyed ++ values) own
     (none_in_both keyed values (own_pass subnet_keys path d form.keys) (subnet_values_pass above around fits path d prefix.first form.times form.policy prefix.is link.0))
     (subnet_own_pass above path d prefix.first class.first outside.first form prefix.is class.is outside.is lists.boot))
-    (beside_pass around.outside above.outside around.bare known outside.first above.boot prefix.first (unless_empty class.first) path d subnet fits.outside outside.is listed))
+    (beside_pass around.outside around.kinds above.outside around.bare known outside.first above.boot prefix.first (unless_empty class.first) path d subnet fits.outside outside.is listed))
     (none_in_both (options ++ pools ++ hosts) relay
     (none_in_both (options ++ pools) hosts
     (none_in_both options pools lists.options lists.pools)
@@ -378,7 +396,7 @@ member_prefix above known common d member e =
     let bare = has_bare_names above.bare d in
     let relays = came_from (relays_of (get (codes "relay") d)) _ subnet.first outside.gives in
     let pools = came_from (list_of 64 (kea_pool known) (get (codes "pools") d) >>= parts_of_all) _ subnet.first relays.gives in
-    let hosts = came_from (list_of 4096 (kea_reservation known bare) (get (codes "reservations") d)) _ subnet.first pools.gives in
+    let hosts = came_from (list_of 4096 (kea_reservation known above.kinds bare) (get (codes "reservations") d)) _ subnet.first pools.gives in
     let beside = passed (stand_beside outside.first pools.first hosts.first) _ subnet.first hosts.gives in
     let options = came_from (kea_options false known (get (codes "option-data") d)) _ subnet.first beside.1 in
     let boot = came_from (kea_boot d) _ subnet.first options.gives in
@@ -451,6 +469,7 @@ members_fit above around fits d outside boot e f =
       address = fits.address;
       times = fits.times;
       outside = bind_is around.outside above.outside (λ (b : Bool). flag_or b (get (codes "reservations-out-of-pool") d)) outside fits.outside e;
+      kinds = fits.kinds;
       bare = ap (λ (b : Bool). has_bare_names b d) fits.bare;
       policy = fits.policy;
       boot = bind_is around.boot above.boot _ (boot_or boot above.boot) fits.boot (bind_is (kea_boot d) boot _ (boot_or boot above.boot) f refl);
@@ -580,12 +599,12 @@ server_pass server d settings path e =
     let known = came_from (kea_known (get (codes "option-def") d)) _ settings boot.gives in
     let options = came_from (kea_options true known.first (get (codes "option-data") d)) _ settings known.gives in
     let address = came_from (server_address options.first server) _ settings options.gives in
-    let above : Above = record { server = address.first; times = times.first; calculated = calculated.first; shares = shares_given d; outside = outside.first; bare = server_has_bare_names d; policy = policy.first; boot = boot.first } in
+    let above : Above = record { server = address.first; times = times.first; calculated = calculated.first; shares = shares_given d; outside = outside.first; kinds = kinds_given (get (codes "host-reservation-identifiers") d); bare = server_has_bare_names d; policy = policy.first; boot = boot.first } in
     let around = around_of server d in
     let fits = around_fits server d above
     (address_known server d known.first options.first address.first known.is options.is address.is)
     (bind_is (flag_given (get (codes "calculate-tee-times") d)) calculated.first (λ (b : Bool). kea_times b d) times.first calculated.is times.is)
-    (times_known d calculated.first times.first calculated.is times.is) calculated.is outside.is refl refl policy.is boot.is in
+    (times_known d calculated.first times.first calculated.is times.is) calculated.is outside.is refl refl refl policy.is boot.is in
     let lists = lists_pass known.first options.first above around fits path d settings address.gives in
     let form = form_of d given.is in
     let keyed = own_notes server_keys path d in
@@ -665,10 +684,10 @@ pool_noted known path d e =
     let of_range = note_unless (is_some (get (codes "pool") d >>= kea_range)) Wrong path (codes "pool") in
     nothing_noted (kea_pool known d) path d (own_notes pool_keys path d ++ of_range ++ required_notes path d ++ option_notes false known path d) e
 
-pub host_noted : (known : List Definition) (bare : Bool) (path : List ℕ) (d : Data) → kea_reservation known bare d ≡ None → have_refused (host_notes known bare path d) ≡ true
+pub host_noted : (known : List Definition) (kinds : HostKinds) (bare : Bool) (path : List ℕ) (d : Data) → kea_reservation known kinds bare d ≡ None → have_refused (host_notes known kinds bare path d) ≡ true
 unfolding host_notes
-host_noted known bare path d e =
-    nothing_noted (kea_reservation known bare d) path d (own_notes host_keys path d ++ name_notes bare path d ++ boot_notes path d ++ option_notes false known path d) e
+host_noted known kinds bare path d e =
+    nothing_noted (kea_reservation known kinds bare d) path d (own_notes host_keys path d ++ host_values kinds bare path d ++ boot_notes path d ++ option_notes false known path d) e
 
 root_noted : (server : Option ℕ) (d : Data) → kea_root server d ≡ None → have_refused (root_notes server d) ≡ true
 unfolding root_notes

@@ -19,13 +19,14 @@ use Rattle.kd_json.specs.Subnet.{subnet_prefix}
 use Rattle.kd_json.specs.Values.{number_if_given}
 use Rattle.kd_kea.specs.Boot.{field_given, kea_boot, next_server_given, own_boot}
 use Rattle.kd_kea.specs.Definitions.{kea_known}
+use Rattle.kd_kea.specs.HostKinds.{finds_reservations, kinds_given}
 use Rattle.kd_kea.specs.HostName.{server_has_bare_names}
 use Rattle.kd_kea.specs.Hooks.{hooks_are_quiet}
-use Rattle.kd_kea.specs.Keys.{KeyUse, Plain, each_key, flag, fraction, has_only_keys, is_plain, key_use, keys_are_read, may_have, no_list, served, skipped, usual, whole}
+use Rattle.kd_kea.specs.Keys.{KeyUse, Plain, each_key, flag, fraction, has_only_keys, is_plain, key_use, keys_are_read, allows_value, no_list, served, skipped, usual, whole}
 use Rattle.kd_kea.specs.Notes.{KeyNote, above_by, around_of, boot_notes, calculated_notes, flag_note, have_refused, hook_kind, hook_notes, inherited_notes, interface_notes, kea_address, kea_below, key_notes, keys_in, kind_of_note, lease_notes, lifetime_in, limit_notes, member_keys, note_below, note_unless, notes_at, number_note, object_notes, off_note, off_notes, or_wrong, own_notes, policy_notes, rebind_in, renew_in, repeated_notes, repeated_shares, server_times, server_values, service_notes, share_notes, subnet_values, time_note, all_times, unused_share, unused_shares, usual_note, value_notes}
 use Rattle.kd_kea.specs.Options.{kea_options, server_address}
 use Rattle.kd_kea.specs.Policy.{kea_policy, repeats_policy}
-use Rattle.kd_kea.specs.Settings.{finds_reservations, has_server_form, turns_nothing_on}
+use Rattle.kd_kea.specs.Settings.{has_server_form, turns_nothing_on}
 use Rattle.kd_kea.specs.Subnet.{is_at_server, kea_subnet}
 use Rattle.kd_kea.specs.Tables.{server_keys}
 use Rattle.kd_kea.specs.Times.{are_in_order, are_shares, share_key, times_key, has_one_lifetime, has_usual_shares, is_asked_for, kea_times, repeats_shares, repeats_times, shares_given, usual_rebind, usual_renew}
@@ -34,6 +35,7 @@ use Rattle.kd_kea.specs.declared.notes.NoteKind.{NoteKind}
 use Rattle.kd_kea.specs.declared.notes.NoteKind.TheVariants.{Skipped, Unknown, Wrong}
 use Rattle.kd_kea.specs.declared.notes.around.Around.{Around}
 use Rattle.kd_kea.specs.declared.objects.definition.Definition.{Definition}
+use Rattle.kd_kea.specs.declared.objects.host_kinds.HostKinds.{HostKinds}
 use Rattle.kd_kea.specs.declared.objects.policy.Policy.{Policy}
 use Rattle.kd_kea.specs.declared.objects.subnet.Above.{Above}
 use Rattle.kd_kea.specs.declared.objects.times.Shares.{Shares}
@@ -48,11 +50,11 @@ none_in_both xs ys e f = list_any-append _ xs ys ∙ or_from (have_refused xs) (
 -- ---- the keys of an object
 
 -- a key is refused exactly if it may not have its value
-pub key_refused : (path key : List ℕ) (given : Option KeyUse) (value : Option Data) → have_refused (note_below path key (kind_of_note given value)) ≡ not (may_have given value)
+pub key_refused : (path key : List ℕ) (given : Option KeyUse) (value : Option Data) → have_refused (note_below path key (kind_of_note given value)) ≡ not (allows_value given value)
 key_refused path key None value = refl
 key_refused path key (Some served) value = refl
 key_refused path key (Some skipped) value = refl
-key_refused path key (Some (usual values)) value = by (may_have (Some (usual values)) value) where
+key_refused path key (Some (usual values)) value = by (allows_value (Some (usual values)) value) where
   by : (b : Bool) → have_refused (note_below path key (if b then None else Some Unknown)) ≡ not b
   by true = refl
   by false = refl
@@ -61,16 +63,16 @@ pub not_both : (a b : Bool) → (not a || not b) ≡ not (a && b)
 not_both true b = refl
 not_both false b = refl
 
-pub keys_refused : (table : List (List ℕ × KeyUse)) (path : List ℕ) (d : Data) (ms : Members) → have_refused (key_notes table path d (member_keys ms)) ≡ not (each_key (λ key. may_have (key_use table key) (get key d)) ms)
+pub keys_refused : (table : List (List ℕ × KeyUse)) (path : List ℕ) (d : Data) (ms : Members) → have_refused (key_notes table path d (member_keys ms)) ≡ not (each_key (λ key. allows_value (key_use table key) (get key d)) ms)
 keys_refused table path d no_members = refl
 keys_refused table path d (member key v ms) =
-    let this = may_have (key_use table key) (get key d) in
-    let others = each_key (λ key. may_have (key_use table key) (get key d)) ms in
+    let this = allows_value (key_use table key) (get key d) in
+    let others = each_key (λ key. allows_value (key_use table key) (get key d)) ms in
     list_any-append _ (note_below path key (kind_of_note (key_use table key) (get key d))) (key_notes table path d (member_keys ms))
     ∙ (ap (λ (b : Bool). b || have_refused (key_notes table path d (member_keys ms))) (key_refused path key (key_use table key) (get key d))
     ∙ (ap (λ (b : Bool). not this || b) (keys_refused table path d ms) ∙ not_both this others))
 
-pub all_pass : (table : List (List ℕ × KeyUse)) (path : List ℕ) (d : Data) (o : Option Members) → has_only_keys (λ key. may_have (key_use table key) (get key d)) o ≡ true → have_refused (key_notes table path d (keys_in o)) ≡ false
+pub all_pass : (table : List (List ℕ × KeyUse)) (path : List ℕ) (d : Data) (o : Option Members) → has_only_keys (λ key. allows_value (key_use table key) (get key d)) o ≡ true → have_refused (key_notes table path d (keys_in o)) ≡ false
 all_pass table path d None e = refl
 all_pass table path d (Some ms) e = keys_refused table path d ms ∙ ap not e
 
@@ -209,7 +211,7 @@ object_none o a path d notes e f g = by (is_some (as_object d)) f where
 pub is_object : (table : List (List ℕ × KeyUse)) (d : Data) → keys_are_read table d ≡ true → is_some (as_object d) ≡ true
 unfolding keys_are_read
 is_object table d e = by (as_object d) e where
-  by : (o : Option Members) → has_only_keys (λ key. may_have (key_use table key) (get key d)) o ≡ true → is_some o ≡ true
+  by : (o : Option Members) → has_only_keys (λ key. allows_value (key_use table key) (get key d)) o ≡ true → is_some o ≡ true
   by None h = absurd (cc)
   by (Some members) h = refl
 
@@ -299,6 +301,7 @@ pub record Fits (above : Above) (around : Around) : Type 0 where
   pub address : around.address ≡ Some above.server
   pub times : around.times ≡ Some above.times
   pub outside : around.outside ≡ Some above.outside
+  pub kinds : around.kinds ≡ above.kinds
   pub bare : around.bare ≡ above.bare
   pub policy : around.policy ≡ Some above.policy
   pub boot : around.boot ≡ Some above.boot
@@ -420,10 +423,10 @@ times_known d calculated times f e =
       rebind = bind_is given calculated _ rebind.first f (bind_is (lifetime_in d) lifetime.first _ rebind.first lifetime.is rebind.is);
     })
 
-pub around_fits : (server : Option ℕ) (d : Data) (above : Above) → kea_address server d ≡ Some above.server → all_times d ≡ Some above.times → HasTimes d above.times → flag_given (get (codes "calculate-tee-times") d) ≡ Some above.calculated → flag_given (get (codes "reservations-out-of-pool") d) ≡ Some above.outside → shares_given d ≡ above.shares → server_has_bare_names d ≡ above.bare → kea_policy d ≡ Some above.policy → kea_boot d ≡ Some above.boot
+pub around_fits : (server : Option ℕ) (d : Data) (above : Above) → kea_address server d ≡ Some above.server → all_times d ≡ Some above.times → HasTimes d above.times → flag_given (get (codes "calculate-tee-times") d) ≡ Some above.calculated → flag_given (get (codes "reservations-out-of-pool") d) ≡ Some above.outside → shares_given d ≡ above.shares → kinds_given (get (codes "host-reservation-identifiers") d) ≡ above.kinds → server_has_bare_names d ≡ above.bare → kea_policy d ≡ Some above.policy → kea_boot d ≡ Some above.boot
     → Fits above (around_of server d)
 unfolding around_of
-around_fits server d above e given times f g s b p o = record { address = e; times = given; outside = g; bare = b; policy = p; boot = o; calculated = f; shares = s; lifetime = times.lifetime; renew = times.renew; rebind = times.rebind }
+around_fits server d above e given times f g s k b p o = record { address = e; times = given; outside = g; kinds = k; bare = b; policy = p; boot = o; calculated = f; shares = s; lifetime = times.lifetime; renew = times.renew; rebind = times.rebind }
 
 pub above_known : (above : Above) (around : Around) → Fits above around → above_by around ≡ Some above
 unfolding above_by
@@ -434,8 +437,9 @@ above_known above around fits =
     (bind_is around.outside above.outside _ above fits.outside
     (bind_is around.policy above.policy _ above fits.policy
     (bind_is around.boot above.boot _ above fits.boot
-    (ap (λ (s : Shares). Some (record { server = above.server; times = above.times; calculated = above.calculated; shares = s; outside = above.outside; bare = around.bare; policy = above.policy; boot = above.boot })) fits.shares
-    ∙ ap (λ (b : Bool). Some (record { server = above.server; times = above.times; calculated = above.calculated; shares = above.shares; outside = above.outside; bare = b; policy = above.policy; boot = above.boot })) fits.bare))))))
+    (ap (λ (s : Shares). Some (record { server = above.server; times = above.times; calculated = above.calculated; shares = s; outside = above.outside; kinds = around.kinds; bare = around.bare; policy = above.policy; boot = above.boot })) fits.shares
+    ∙ ap (λ (k : HostKinds). Some (record { server = above.server; times = above.times; calculated = above.calculated; shares = above.shares; outside = above.outside; kinds = k; bare = around.bare; policy = above.policy; boot = above.boot })) fits.kinds
+    ∙ ap (λ (b : Bool). Some (record { server = above.server; times = above.times; calculated = above.calculated; shares = above.shares; outside = above.outside; kinds = above.kinds; bare = b; policy = above.policy; boot = above.boot })) fits.bare))))))
 
 pub below_known : (given : Option Above) (above : Above) (known : List Definition) (d : Data) (subnet : Subnet) → given ≡ Some above → kea_subnet above known d ≡ Some subnet → kea_below given known d ≡ Some tt
 below_known given above known d subnet e f =

@@ -10,7 +10,7 @@ use Rattle.serde_json.specs.Find.{as_object, get}
 use Rattle.serde_json.specs.View.{members_view}
 use Rattle.serde_json.specs.declared.value.Value.{Value}
 use Rattle.kd_json.specs.Steps.{must}
-use Rattle.kd_kea.specs.Keys.{KeyUse, each_key, has_only_keys, key_use, keys_are_read, may_have}
+use Rattle.kd_kea.specs.Keys.{KeyUse, each_key, has_only_keys, key_use, keys_are_read, allows_value}
 use Rattle.kd_kea.specs.Rows.{row_of, rows_of}
 use Rattle.kd_kea.specs.declared.keys.KeyRule.{KeyRule}
 
@@ -40,19 +40,19 @@ one_fails test [] found e = absurd (cc)
 one_fails test (m ∷ entries) found e =
     refused_here (test (string_bytes m.0)) m.0 found (find (λ k. not (test (string_bytes k))) (map (λ m. m.0) entries)) (each_key test (members_view entries)) e (one_fails test entries found)
 
-read_is : (table : List (List ℕ × KeyUse)) (d : Data) (ms : Members) (b : Bool) → Some ms ≡ as_object d → each_key (λ key. may_have (key_use table key) (get key d)) ms ≡ b → must (keys_are_read table d) ≡ must b
+read_is : (table : List (List ℕ × KeyUse)) (d : Data) (ms : Members) (b : Bool) → Some ms ≡ as_object d → each_key (λ key. allows_value (key_use table key) (get key d)) ms ≡ b → must (keys_are_read table d) ≡ must b
 unfolding keys_are_read
-read_is table d ms b e f = ap (λ (o : Option Members). must (has_only_keys (λ key. may_have (key_use table key) (get key d)) o)) (sym e) ∙ ap must f
+read_is table d ms b e f = ap (λ (o : Option Members). must (has_only_keys (λ key. allows_value (key_use table key) (get key d)) o)) (sym e) ∙ ap must f
 
 -- a key is refused
 pub refused : (table : List (List ℕ × KeyUse)) (d : Data) (entries : List (String Global × Value)) (found : String Global) → Some (members_view entries) ≡ as_object d
-    → Some found ≡ find (λ k. not (may_have (key_use table (string_bytes k)) (get (string_bytes k) d))) (map (λ m. m.0) entries) → must (keys_are_read table d) ≡ None
-refused table d entries found e f = read_is table d (members_view entries) false e (one_fails (λ key. may_have (key_use table key) (get key d)) entries found f)
+    → Some found ≡ find (λ k. not (allows_value (key_use table (string_bytes k)) (get (string_bytes k) d))) (map (λ m. m.0) entries) → must (keys_are_read table d) ≡ None
+refused table d entries found e f = read_is table d (members_view entries) false e (one_fails (λ key. allows_value (key_use table key) (get key d)) entries found f)
 
 -- no key is refused
 pub accepted : (table : List (List ℕ × KeyUse)) (d : Data) (entries : List (String Global × Value)) → Some (members_view entries) ≡ as_object d
-    → None ≡ find (λ k. not (may_have (key_use table (string_bytes k)) (get (string_bytes k) d))) (map (λ m. m.0) entries) → must (keys_are_read table d) ≡ Some tt
-accepted table d entries e f = read_is table d (members_view entries) true e (all_pass (λ key. may_have (key_use table key) (get key d)) entries f)
+    → None ≡ find (λ k. not (allows_value (key_use table (string_bytes k)) (get (string_bytes k) d))) (map (λ m. m.0) entries) → must (keys_are_read table d) ≡ Some tt
+accepted table d entries e f = read_is table d (members_view entries) true e (all_pass (λ key. allows_value (key_use table key) (get key d)) entries f)
 
 -- a key in two tables, one after another
 here_or_later : {V : Type 0} (b : Bool) (v : V) (more rest : Option V) → more ≡ rest → cond b (Some v) more ≡ cond b (Some v) rest

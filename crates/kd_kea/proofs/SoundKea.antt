@@ -19,6 +19,7 @@ use Rattle.kd_kea.proofs.Sounds.{all_sound, options_sound, server_sound, times_s
 use Rattle.kd_kea.specs.Boot.{kea_boot, own_boot}
 use Rattle.kd_kea.specs.Class.{kea_class_options, kea_class}
 use Rattle.kd_kea.specs.Definitions.{kea_definitions, kea_known}
+use Rattle.kd_kea.specs.HostKinds.{kinds_given}
 use Rattle.kd_kea.specs.HostName.{server_has_bare_names}
 use Rattle.kd_kea.specs.Kea.{kea_settings}
 use Rattle.kd_kea.specs.Keys.{keys_are_read}
@@ -70,7 +71,7 @@ dhcp4_sound server d s e =
     let known = came_from (kea_known (get (codes "option-def") d)) _ s boot.gives in
     let options = came_from (kea_options true known.first (get (codes "option-data") d)) _ s known.gives in
     let address = came_from (server_address options.first server) _ s options.gives in
-    let above : Above = record { server = address.first; times = times.first; calculated = calculated.first; shares = shares_given d; outside = outside.first; bare = server_has_bare_names d; policy = policy.first; boot = boot.first } in
+    let above : Above = record { server = address.first; times = times.first; calculated = calculated.first; shares = shares_given d; outside = outside.first; kinds = kinds_given (get (codes "host-reservation-identifiers") d); bare = server_has_bare_names d; policy = policy.first; boot = boot.first } in
     let classes = came_from (list_of 256 (kea_class known.first) (get (codes "client-classes") d)) _ s address.gives in
     let subnets = came_from (kea_subnets above known.first d) _ s classes.gives in
     let sound = subnets_sound above (boot_sound d boot.first boot.is) known.first d subnets.first subnets.is in

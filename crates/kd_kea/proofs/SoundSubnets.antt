@@ -8,28 +8,31 @@ use Rattle.kd_config.specs.declared.range.Range.{Range}
 use Rattle.kd_config.specs.declared.reservation.Reservation.{Reservation}
 use Rattle.kd_config.specs.declared.subnet.Subnet.{Subnet}
 use Rattle.kd_json.proofs.Came.{came_from, each_meant, few_meant, passed, passed_only}
-use Rattle.kd_json.proofs.SoundSettings.{given_sound, prefix_in_sound, addresses_in_rise}
+use Rattle.kd_json.proofs.SoundSettings.{prefix_in_sound, addresses_in_rise}
 use Rattle.kd_json.specs.Lists.{list_of}
 use Rattle.kd_json.specs.Pool.{pool_addresses}
-use Rattle.kd_json.specs.Reservation.{identity_given}
 use Rattle.kd_json.specs.Subnet.{subnet_prefix}
 use Rattle.kd_json.specs.Values.{address_given, text_if_given}
 use Rattle.kd_kea.proofs.SoundBoot.{boot_sound, listed_sound, or_sound, own_sound}
+use Rattle.kd_kea.proofs.SoundClients.{client_sound}
 use Rattle.kd_kea.proofs.SoundNames.{host_options_sound}
 use Rattle.kd_kea.proofs.SoundParts.{IsWide, parts_sound}
 use Rattle.kd_kea.proofs.Sounds.{options_sound}
 use Rattle.kd_kea.specs.Boot.{kea_boot, own_boot}
+use Rattle.kd_kea.specs.HostClient.{kea_client}
+use Rattle.kd_kea.specs.HostKinds.{are_all_found}
 use Rattle.kd_kea.specs.HostName.{has_bare_names, host_options}
 use Rattle.kd_kea.specs.Keys.{keys_are_read}
 use Rattle.kd_kea.specs.Options.{kea_options}
 use Rattle.kd_kea.specs.Parts.{parts_of_all}
 use Rattle.kd_kea.specs.Pool.{kea_pool, kea_range, may_require}
 use Rattle.kd_kea.specs.Relay.{kea_relay, relays_by, relays_of}
-use Rattle.kd_kea.specs.Reservation.{kea_reservation}
+use Rattle.kd_kea.specs.Reservation.{address_if_given, kea_reservation}
 use Rattle.kd_kea.specs.Subnet.{stand_beside, has_subnet_form, is_at_server, kea_subnet, kea_subnet_with}
 use Rattle.kd_kea.specs.Tables.{host_keys, pool_keys, relay_keys}
-use Rattle.kd_kea.specs.Values.{flag_or, is_whole_if_given}
+use Rattle.kd_kea.specs.Values.{flag_or}
 use Rattle.kd_kea.specs.declared.objects.definition.Definition.{Definition}
+use Rattle.kd_kea.specs.declared.objects.host_kinds.HostKinds.{HostKinds}
 use Rattle.kd_kea.specs.declared.objects.subnet.Above.{Above}
 use Rattle.kd_wire.specs.Steps.{◌>>=◌}
 use Rattle.serde_json.specs.Data.{Data}
@@ -56,18 +59,17 @@ pool_sound known d pool e =
       options = options_sound known (get (codes "option-data") d) options.first options.is;
     })
 
-reservation_sound : (known : List Definition) (bare : Bool) (d : Data) (reservation : Reservation) → kea_reservation known bare d ≡ Some reservation → IsReservation reservation
+reservation_sound : (known : List Definition) (kinds : HostKinds) (bare : Bool) (d : Data) (reservation : Reservation) → kea_reservation known kinds bare d ≡ Some reservation → IsReservation reservation
 unfolding kea_reservation
-reservation_sound known bare d reservation e =
+reservation_sound known kinds bare d reservation e =
     let keys = passed (keys_are_read host_keys d) _ reservation e in
-    let hardware = passed (is_whole_if_given (get (codes "hw-address") d)) _ reservation keys.1 in
-    let client = passed (is_whole_if_given (get (codes "client-id") d)) _ reservation hardware.1 in
-    let identity = came_from (identity_given d) _ reservation client.1 in
-    let address = came_from (option_and_then address_given (get (codes "ip-address") d)) _ reservation identity.gives in
+    let found = passed (are_all_found kinds d) _ reservation keys.1 in
+    let client = came_from (kea_client d) _ reservation found.1 in
+    let address = came_from (address_if_given (get (codes "ip-address") d)) _ reservation client.gives in
     let options = came_from (host_options known bare d) _ reservation address.gives in
     let boot = came_from (own_boot d) _ reservation options.gives in
     subst IsReservation (some_is _ reservation boot.gives) (record {
-      identity = given_sound d identity.first identity.is;
+      identity = client_sound d client.first client.is;
       options = host_options_sound known bare d options.first options.is;
       boots = listed_sound boot.first (own_sound d boot.first boot.is);
     })
@@ -101,7 +103,7 @@ subnet_sound above given known d subnet e =
     let whole = came_from (list_of 64 (kea_pool known) (get (codes "pools") d)) parts_of_all pools.first pools.is in
     let parts = parts_sound whole.first pools.first whole.gives (each_meant IsWide (kea_pool known) (pool_sound known) 64 (get (codes "pools") d) whole.first whole.is) in
     let bare = has_bare_names above.bare d in
-    let reservations = came_from (list_of 4096 (kea_reservation known bare) (get (codes "reservations") d)) _ subnet pools.gives in
+    let reservations = came_from (list_of 4096 (kea_reservation known above.kinds bare) (get (codes "reservations") d)) _ subnet pools.gives in
     let beside = passed (stand_beside outside.first pools.first reservations.first) _ subnet reservations.gives in
     let options = came_from (kea_options false known (get (codes "option-data") d)) _ subnet beside.1 in
     let boot = came_from (kea_boot d) _ subnet options.gives in
@@ -111,8 +113,8 @@ subnet_sound above given known d subnet e =
       few_relays = relays_few (get (codes "relay") d) relays.first relays.is;
       few_pools = parts.0;
       pools = parts.1;
-      few_reservations = few_meant 4096 (kea_reservation known bare) (get (codes "reservations") d) reservations.first reservations.is;
-      reservations = each_meant IsReservation (kea_reservation known bare) (reservation_sound known bare) 4096 (get (codes "reservations") d) reservations.first reservations.is;
+      few_reservations = few_meant 4096 (kea_reservation known above.kinds bare) (get (codes "reservations") d) reservations.first reservations.is;
+      reservations = each_meant IsReservation (kea_reservation known above.kinds bare) (reservation_sound known above.kinds bare) 4096 (get (codes "reservations") d) reservations.first reservations.is;
       options = options_sound known (get (codes "option-data") d) options.first options.is;
       shared = record { few = omega arith; each = tt; own = tt };
       boot = or_sound boot.first above.boot (boot_sound d boot.first boot.is) given;

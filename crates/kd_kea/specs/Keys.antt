@@ -46,12 +46,12 @@ key_use table key =
     if starts_with nat_eq key (codes "ddns-") then Some skipped else lookup (bytes_eq key) table
 
 -- a key with this use may have a value
-abbrev pub may_have : Option KeyUse → Option Data → Bool
-may_have None value = false
-may_have (Some served) value = true
-may_have (Some skipped) value = true
-may_have (Some (usual values)) None = false
-may_have (Some (usual values)) (Some d) = list_any (λ plain. is_plain plain d) values
+abbrev pub allows_value : Option KeyUse → Option Data → Bool
+allows_value None value = false
+allows_value (Some served) value = true
+allows_value (Some skipped) value = true
+allows_value (Some (usual values)) None = false
+allows_value (Some (usual values)) (Some d) = list_any (λ plain. is_plain plain d) values
 
 -- each key of the members passes a test
 abbrev pub each_key : (List ℕ → Bool) → Members → Bool
@@ -66,4 +66,4 @@ has_only_keys test (Some members) = each_key test members
 -- a value is an object of a kind: each key of it may have its value, by the kind's table
 unfoldable pub keys_are_read : List (List ℕ × KeyUse) → Data → Bool
 keys_are_read table d =
-    has_only_keys (λ key. may_have (key_use table key) (get key d)) (as_object d)
+    has_only_keys (λ key. allows_value (key_use table key) (get key d)) (as_object d)

@@ -16,6 +16,8 @@ pub mod Class
 pub mod Pool
 pub mod Parts
 pub mod HostName
+pub mod HostKinds
+pub mod HostClient
 pub mod Reservation
 pub mod Relay
 pub mod Subnet

@@ -102,6 +102,7 @@ above_members above outside boot d =
       calculated = above.calculated;
       shares = above.shares;
       outside = outside;
+      kinds = above.kinds;
       bare = has_bare_names above.bare d;
       policy = above.policy;
       boot = boot_or boot above.boot;

@@ -22,9 +22,10 @@ use Rattle.kd_json.specs.Values.{number_if_given, text_if_given}
 use Rattle.kd_kea.specs.Boot.{field_given, kea_boot, next_server_given}
 use Rattle.kd_kea.specs.Class.{kea_class}
 use Rattle.kd_kea.specs.Definitions.{kea_definition, kea_definitions, kea_known, standard_records, usual_vendor}
+use Rattle.kd_kea.specs.HostKinds.{finds_reservations, is_found_if_given, kinds_given, kinds_in_order, kind_key}
 use Rattle.kd_kea.specs.HostName.{has_bare_names, host_name, may_be_named, server_has_bare_names}
 use Rattle.kd_kea.specs.Hooks.{hooks_are_quiet}
-use Rattle.kd_kea.specs.Keys.{KeyUse, Plain, flag, fraction, is_plain, key_use, may_have, no_list, skipped, whole}
+use Rattle.kd_kea.specs.Keys.{KeyUse, Plain, flag, fraction, is_plain, key_use, allows_value, no_list, skipped, whole}
 use Rattle.kd_kea.specs.Network.{is_interface_of, kea_network}
 use Rattle.kd_kea.specs.Options.{is_served_space, kea_entry, kea_options, server_address}
 use Rattle.kd_kea.specs.Plain.{plain}
@@ -33,7 +34,7 @@ use Rattle.kd_kea.specs.Policy.{kea_policy}
 use Rattle.kd_kea.specs.Pool.{kea_pool, kea_range, may_require}
 use Rattle.kd_kea.specs.Relay.{kea_relay}
 use Rattle.kd_kea.specs.Reservation.{kea_reservation}
-use Rattle.kd_kea.specs.Settings.{finds_reservations, kea_dhcp4, kea_root, turns_nothing_on}
+use Rattle.kd_kea.specs.Settings.{kea_dhcp4, kea_root, turns_nothing_on}
 use Rattle.kd_kea.specs.Subnet.{is_at_server, kea_subnet, stand_beside}
 use Rattle.kd_kea.specs.Tables.{class_keys, data_keys, definition_keys, host_keys, network_keys, pool_keys, relay_keys, root_keys, server_keys, subnet_keys}
 use Rattle.kd_kea.specs.Times.{are_shares, kea_times, share_key, shares_given, times_key, usual_rebind, usual_renew}
@@ -44,6 +45,7 @@ use Rattle.kd_kea.specs.declared.notes.NoteKind.TheVariants.{Skipped, Unknown, W
 use Rattle.kd_kea.specs.declared.notes.around.Around.{Around}
 use Rattle.kd_kea.specs.declared.objects.times.Shares.{Shares}
 use Rattle.kd_kea.specs.declared.objects.definition.Definition.{Definition}
+use Rattle.kd_kea.specs.declared.objects.host_kinds.HostKinds.{HostKinds}
 use Rattle.kd_kea.specs.declared.objects.policy.Policy.{Policy}
 use Rattle.kd_kea.specs.declared.objects.subnet.Above.{Above}
 use Rattle.kd_kea.specs.declared.objects.times.TheConstants.{HALF, SEVEN_EIGHTHS}
@@ -64,7 +66,7 @@ note_of note = (string_bytes note.path, note.kind)
 -- not have the value
 abbrev pub kind_of_note : Option KeyUse → Option Data → Option NoteKind
 kind_of_note (Some skipped) value = Some Skipped
-kind_of_note usage value = if may_have usage value then None else Some Unknown
+kind_of_note usage value = if allows_value usage value then None else Some Unknown
 
 -- the note on a key of the object at a path, if there is one: the key as a terminal may show it
 abbrev pub note_below : List ℕ → List ℕ → Option NoteKind → List KeyNote
@@ -264,7 +266,7 @@ all_times d = do
 -- what holds for the whole server by the value of `Dhcp4`, each part if it is right by itself
 unfoldable pub around_of : Option ℕ → Data → Around
 around_of server d =
-    record { address = kea_address server d; times = all_times d; calculated = flag_given (get (codes "calculate-tee-times") d); shares = shares_given d; outside = flag_given (get (codes "reservations-out-of-pool") d); bare = server_has_bare_names d; policy = kea_policy d; boot = kea_boot d; lifetime = lifetime_in d; renew = renew_in d; rebind = rebind_in d }
+    record { address = kea_address server d; times = all_times d; calculated = flag_given (get (codes "calculate-tee-times") d); shares = shares_given d; outside = flag_given (get (codes "reservations-out-of-pool") d); kinds = kinds_given (get (codes "host-reservation-identifiers") d); bare = server_has_bare_names d; policy = kea_policy d; boot = kea_boot d; lifetime = lifetime_in d; renew = renew_in d; rebind = rebind_in d }
 
 -- what holds for the whole server, if all of it is right
 unfoldable pub above_by : Around → Option Above
@@ -275,7 +277,7 @@ above_by around = do
   outside ← around.outside
   policy ← around.policy
   boot ← around.boot
-  Some (record { server = server; times = times; calculated = calculated; shares = around.shares; outside = outside; bare = around.bare; policy = policy; boot = boot })
+  Some (record { server = server; times = times; calculated = calculated; shares = around.shares; outside = outside; kinds = around.kinds; bare = around.bare; policy = policy; boot = boot })
 
 -- the note on whether the times of a subnet are calculated, which is as for the whole server
 abbrev pub calculated_notes : Option Bool → ObjectNotes
@@ -457,12 +459,23 @@ note_on_name bare (Some name) path =
 abbrev pub name_notes : Bool → ObjectNotes
 name_notes bare path d = note_on_name bare (host_name (get (codes "hostname") d)) path
 
--- the notes of a reservation at a path, where host names have no suffix or have one
-unfoldable pub host_notes : List Definition → Bool → ObjectNotes
-host_notes known bare path d =
-    object_notes (is_some (kea_reservation known bare d)) path d
+-- the notes on the keys for the client of a reservation, by which reservations are not looked for
+abbrev pub kind_notes : HostKinds → ObjectNotes
+kind_notes kinds path d =
+    flat_map (λ kind. note_unless (is_found_if_given kinds d kind) Unknown path (kind_key kind))
+    kinds_in_order
+
+-- the notes on such keys, and on the host name
+unfoldable pub host_values : HostKinds → Bool → ObjectNotes
+host_values kinds bare path d = kind_notes kinds path d ++ name_notes bare path d
+
+-- the notes of a reservation at a path, where reservations are looked for by these kinds of
+-- identity, and host names have no suffix or have one
+unfoldable pub host_notes : List Definition → HostKinds → Bool → ObjectNotes
+host_notes known kinds bare path d =
+    object_notes (is_some (kea_reservation known kinds bare d)) path d
     (own_notes host_keys path d
-    ++ name_notes bare path d
+    ++ host_values kinds bare path d
     ++ boot_notes path d
     ++ option_notes false known path d)
 
@@ -478,12 +491,12 @@ class_notes known path d =
     ++ option_notes false (right_definitions true d ++ known) path d)
 
 -- whether reservations may stand beside the pools of a subnet, if all that says so is right
-unfoldable pub kea_beside : Option Bool → Bool → List Definition → Data → Option Bool
-kea_beside given bare known d = do
+unfoldable pub kea_beside : Option Bool → HostKinds → Bool → List Definition → Data → Option Bool
+kea_beside given kinds bare known d = do
   other ← given
   outside ← flag_or other (get (codes "reservations-out-of-pool") d)
   pools ← list_of 64 (kea_pool known) (get (codes "pools") d) >>= parts_of_all
-  reservations ← list_of 4096 (kea_reservation known (has_bare_names bare d)) (get (codes "reservations") d)
+  reservations ← list_of 4096 (kea_reservation known kinds (has_bare_names bare d)) (get (codes "reservations") d)
   Some (stand_beside outside pools reservations)
 
 -- a test was passed, or not made
@@ -492,9 +505,9 @@ is_not_failed None = true
 is_not_failed (Some passed) = passed
 
 -- the note that reservations of a subnet are not looked for outside pools alone, if a pool has one
-abbrev pub beside_note : Option Bool → Bool → List Definition → ObjectNotes
-beside_note given bare known path d =
-    note_unless (is_not_failed (kea_beside given bare known d)) Unknown path
+abbrev pub beside_note : Option Bool → HostKinds → Bool → List Definition → ObjectNotes
+beside_note given kinds bare known path d =
+    note_unless (is_not_failed (kea_beside given kinds bare known d)) Unknown path
     (codes "reservations-out-of-pool")
 
 -- the notes of the relay of a subnet at a path
@@ -517,13 +530,13 @@ subnet_own path d =
     ++ flag_note (codes "reservations-out-of-pool") path d
     ++ boot_notes path d
 
--- the notes on the lists and the relay of a subnet, by these definitions; `bare` says that host names
--- have no suffix above the subnet
-unfoldable pub subnet_lists : List Definition → Bool → ObjectNotes
-subnet_lists known bare path d =
+-- the notes on the lists and the relay of a subnet, by these definitions; reservations are looked
+-- for by these kinds of identity, and `bare` says that host names have no suffix above the subnet
+unfoldable pub subnet_lists : List Definition → HostKinds → Bool → ObjectNotes
+subnet_lists known kinds bare path d =
     option_notes false known path d
     ++ listed_notes 64 (pool_notes known) (codes "pools") path d
-    ++ listed_notes 4096 (host_notes known (has_bare_names bare d)) (codes "reservations") path d
+    ++ listed_notes 4096 (host_notes known kinds (has_bare_names bare d)) (codes "reservations") path d
     ++ notes_at relay_notes path (codes "relay") d
 
 -- the notes of a subnet at a path, by what holds for the whole server and these definitions
@@ -533,8 +546,8 @@ subnet_notes around known path d =
     (own_notes subnet_keys path d
     ++ subnet_values around path d
     ++ subnet_own path d
-    ++ beside_note around.outside around.bare known path d
-    ++ subnet_lists known around.bare path d)
+    ++ beside_note around.outside around.kinds around.bare known path d
+    ++ subnet_lists known around.kinds around.bare path d)
 
 -- ---- networks
 
@@ -587,7 +600,7 @@ boot_in given d = do
 -- what holds above the members of a network, each part if it is right by itself
 unfoldable pub around_members : Around → Data → Around
 around_members around d =
-    record { address = around.address; times = around.times; calculated = around.calculated; shares = around.shares; outside = outside_in around.outside d; bare = has_bare_names around.bare d; policy = around.policy; boot = boot_in around.boot d; lifetime = around.lifetime; renew = around.renew; rebind = around.rebind }
+    record { address = around.address; times = around.times; calculated = around.calculated; shares = around.shares; outside = outside_in around.outside d; kinds = around.kinds; bare = has_bare_names around.bare d; policy = around.policy; boot = boot_in around.boot d; lifetime = around.lifetime; renew = around.renew; rebind = around.rebind }
 
 -- the notes on the options, the members and the relay of a network, by what holds for the whole server
 -- and these definitions

@@ -4,7 +4,6 @@ use Rattle.std.specs.Prelude.{ℕ, ◌==◌, Bool, true, false, not, ◌||◌, n
 use Rattle.serde_json.specs.Data.{Data}
 use Rattle.serde_json.specs.Find.{as_bool, as_str}
 use Rattle.kd_json.specs.Steps.{must, only_if}
-use Rattle.kd_json.specs.Values.{hex_bytes_in}
 use Rattle.kd_names.specs.Table.{kind_by_code}
 use Rattle.kd_names.specs.declared.kind.Kind.{Kind}
 use Rattle.kd_names.specs.declared.kind.Kind.TheVariants as kinds
@@ -13,8 +12,8 @@ use Rattle.kd_values.specs.Spelled.{data_spelled}
 use Rattle.kd_values.specs.declared.field_type.FieldType.{FieldType}
 use Rattle.kd_values.specs.declared.field_type.FieldType.TheVariants as types
 use Rattle.kd_kea.specs.Definitions.{is_dhcp4}
-use Rattle.kd_kea.specs.Quoted.{bytes_in_quotes}
-use Rattle.kd_kea.specs.Values.{has_whole_bytes, is_whole_if_given, text_otherwise}
+use Rattle.kd_kea.specs.Quoted.{bytes_written}
+use Rattle.kd_kea.specs.Values.{has_whole_bytes, text_otherwise}
 use Rattle.kd_kea.specs.declared.objects.definition.Definition.{Definition}
 use Rattle.kd_wire.specs.Steps.{◌>>=◌}
 
@@ -78,17 +77,10 @@ abbrev pub typed_data : Option Definition → Option Kind → Option Data → Op
 typed_data (Some it) kind value = fields_data it value
 typed_data None kind value = data_as_text kind value
 
--- the bytes of a text in quotation marks, at most 1,024, or else those in hexadecimal
-abbrev pub bytes_by : Option (List ℕ) → Data → Option (List ℕ)
-bytes_by (Some bytes) d = only_if (nat_le (length bytes) 1024) bytes
-bytes_by None d = do
-  _ ← must (is_whole_if_given (Some d))
-  hex_bytes_in 0 1024 d
-
 -- the value that data gives in hexadecimal or in quotation marks; no data gives no bytes
 abbrev pub hex_data : Option Data → Option (List ℕ)
 hex_data None = Some []
-hex_data (Some d) = bytes_by (as_str d >>= bytes_in_quotes) d
+hex_data (Some d) = bytes_written 1024 d
 
 -- the value that data gives, in one way or the other
 abbrev pub data_by : Bool → Option Definition → Option Kind → Option Data → Option (List ℕ)

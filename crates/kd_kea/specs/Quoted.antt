@@ -1,7 +1,14 @@
--- Bytes as a text between single quotation marks, where the data of an option is not read by a type.
-use Rattle.std.specs.Prelude.{ℕ, ◌-◌, ◌==◌, nat_eq, nat_le, Bool, ◌&&◌, ◌||◌, List, [], ◌∷◌, codes, drop, length, reverse, take, Option, None, if◌then◌else◌}
+-- Bytes as a text between single quotation marks, or else in hexadecimal: the data of an option
+-- that is not read by a type, and the client of a reservation.
+use Rattle.std.specs.Prelude.{ℕ, ◌-◌, ◌==◌, nat_eq, nat_le, Bool, ◌&&◌, ◌||◌, List, [], ◌∷◌, codes, drop, length, reverse, take, Option, None, Some, if◌then◌else◌}
 use Rattle.std.specs.List.{ends_with, starts_with}
+use Rattle.serde_json.specs.Data.{Data}
+use Rattle.serde_json.specs.Find.{as_str}
+use Rattle.kd_json.specs.Steps.{must, only_if}
+use Rattle.kd_json.specs.Values.{hex_bytes_in}
+use Rattle.kd_kea.specs.Values.{is_whole_text}
 use Rattle.kd_values.specs.Signs.{if_any}
+use Rattle.kd_wire.specs.Steps.{◌>>=◌}
 
 -- a blank around such a text: a space, tab or line feed
 abbrev pub a_blank_here : ℕ → Bool
@@ -32,3 +39,14 @@ bytes_in_quotes text =
     if is_in_quotes (without_blanks text)
     then if_any (without_blanks (between_ends (without_blanks text)))
     else None
+
+-- the bytes that were in quotation marks, or else those of a value in hexadecimal: at most `most`
+abbrev pub quoted_or_hex : ℕ → Option (List ℕ) → Data → Option (List ℕ)
+quoted_or_hex most (Some bytes) d = only_if (nat_le (length bytes) most) bytes
+quoted_or_hex most None d = do
+  _ ← must (is_whole_text d)
+  hex_bytes_in 0 most d
+
+-- the bytes of a value, in quotation marks or else in hexadecimal: at most `most`
+abbrev pub bytes_written : ℕ → Data → Option (List ℕ)
+bytes_written most d = quoted_or_hex most (as_str d >>= bytes_in_quotes) d

@@ -1,6 +1,6 @@
 -- The object `Dhcp4` and the root of a configuration of Kea's.
 use Rattle.std.specs.Prelude.{ℕ, Bool, true, false, not, ◌&&◌, List, codes, Option, Some, None, is_some}
-use Rattle.serde_json.specs.Data.{Data, array}
+use Rattle.serde_json.specs.Data.{Data}
 use Rattle.serde_json.specs.Find.{as_object, get}
 use Rattle.kd_classes.specs.declared.option_list.OptionData.{OptionData}
 use Rattle.kd_config.specs.Configuration.{kea_extensions}
@@ -10,15 +10,16 @@ use Rattle.kd_json.specs.declared.objects.settings.Settings.{Settings}
 use Rattle.kd_kea.specs.Boot.{kea_boot}
 use Rattle.kd_kea.specs.Class.{kea_class}
 use Rattle.kd_kea.specs.Definitions.{kea_known}
+use Rattle.kd_kea.specs.HostKinds.{finds_reservations, kinds_given}
 use Rattle.kd_kea.specs.HostName.{server_has_bare_names}
 use Rattle.kd_kea.specs.Hooks.{hooks_are_quiet}
-use Rattle.kd_kea.specs.Keys.{Plain, flag, keys_are_read, no_list, word}
+use Rattle.kd_kea.specs.Keys.{Plain, flag, keys_are_read, no_list}
 use Rattle.kd_kea.specs.Network.{kea_subnets}
 use Rattle.kd_kea.specs.Options.{kea_options, sent_to_all, server_address}
 use Rattle.kd_kea.specs.Policy.{kea_policy}
 use Rattle.kd_kea.specs.Tables.{root_keys, server_keys}
 use Rattle.kd_kea.specs.Times.{has_usual_shares, kea_times, shares_given}
-use Rattle.kd_kea.specs.Values.{flag_given, has_plain, is_plain_if_given}
+use Rattle.kd_kea.specs.Values.{flag_given, is_plain_if_given}
 use Rattle.kd_kea.specs.declared.objects.definition.Definition.{Definition}
 use Rattle.kd_kea.specs.declared.objects.subnet.Above.{Above}
 use Rattle.kd_wire.specs.Steps.{◌>>=◌}
@@ -28,13 +29,6 @@ abbrev pub turns_nothing_on : List ℕ → Plain → Option Data → Bool
 turns_nothing_on key plain None = true
 turns_nothing_on key plain (Some d) =
     is_some (as_object d) && is_plain_if_given plain (get key d)
-
--- reservations are looked for by hardware address and by identifier
-abbrev pub finds_reservations : Option Data → Bool
-finds_reservations None = true
-finds_reservations (Some (array names)) =
-    has_plain (word (codes "hw-address")) names && has_plain (word (codes "client-id")) names
-finds_reservations (Some d) = false
 
 -- a value has the keys of `Dhcp4`: no names are updated, nothing of the configuration is in a
 -- database, and no hook changes anything for clients
@@ -68,7 +62,7 @@ kea_dhcp4 server d = do
   known ← kea_known (get (codes "option-def") d)
   options ← kea_options true known (get (codes "option-data") d)
   address ← server_address options server
-  kea_settings_with known options (record { server = address; times = times; calculated = calculated; shares = shares_given d; outside = outside; bare = server_has_bare_names d; policy = policy; boot = boot }) d
+  kea_settings_with known options (record { server = address; times = times; calculated = calculated; shares = shares_given d; outside = outside; kinds = kinds_given (get (codes "host-reservation-identifiers") d); bare = server_has_bare_names d; policy = policy; boot = boot }) d
 
 -- the settings that the value of a whole text describes
 unfoldable pub kea_root : Option ℕ → Data → Option Settings

@@ -28,6 +28,7 @@ use Rattle.kd_kea.specs.Tables.{subnet_keys}
 use Rattle.kd_kea.specs.Times.{repeats_times}
 use Rattle.kd_kea.specs.Values.{flag_or, unless_empty}
 use Rattle.kd_kea.specs.declared.objects.definition.Definition.{Definition}
+use Rattle.kd_kea.specs.declared.objects.host_kinds.HostKinds.{HostKinds}
 use Rattle.kd_kea.specs.declared.objects.subnet.Above.{Above}
 use Rattle.kd_wire.specs.Steps.{◌>>=◌}
 
@@ -39,10 +40,14 @@ is_at_server server prefix (Some (string text)) =
     is_plain (word []) (string text) || has_address prefix server
 is_at_server server prefix (Some d) = false
 
--- no pool has the address of a reservation
+-- no pool has an address, or there is no address
+abbrev pub is_in_none : List Pool → Option ℕ → Bool
+is_in_none pools None = true
+is_in_none pools (Some address) = not (list_any (λ pool. has pool.range address) pools)
+
+-- no pool has the address of a reservation, if it has one
 abbrev pub lies_outside : List Pool → Reservation → Bool
-lies_outside pools reservation =
-    not (list_any (λ pool. has pool.range reservation.address) pools)
+lies_outside pools reservation = is_in_none pools reservation.address
 
 -- reservations may stand beside pools: if Kea looks for reservations outside pools alone, no pool has
 -- the address of one
@@ -51,13 +56,13 @@ stand_beside outside pools reservations =
     not outside || list_all (lies_outside pools) reservations
 
 -- the subnet of a prefix and a class with the lists in a value, by these definitions of options;
--- `bare` says that host names have no suffix, and `above` is what is given to the boot fields above
--- the subnet. It is in no network
-unfoldable pub kea_subnet_with : List Definition → Bool → Bool → Boot → Prefix → Option (List ℕ) → Data → Option Subnet
-kea_subnet_with known bare outside above prefix class d = do
+-- reservations are looked for by these kinds of identity, `bare` says that host names have no
+-- suffix, and `above` is what is given to the boot fields above the subnet. It is in no network
+unfoldable pub kea_subnet_with : List Definition → HostKinds → Bool → Bool → Boot → Prefix → Option (List ℕ) → Data → Option Subnet
+kea_subnet_with known kinds bare outside above prefix class d = do
   relays ← relays_of (get (codes "relay") d)
   pools ← list_of 64 (kea_pool known) (get (codes "pools") d) >>= parts_of_all
-  reservations ← list_of 4096 (kea_reservation known bare) (get (codes "reservations") d)
+  reservations ← list_of 4096 (kea_reservation known kinds bare) (get (codes "reservations") d)
   _ ← must (stand_beside outside pools reservations)
   options ← kea_options false known (get (codes "option-data") d)
   boot ← kea_boot d
@@ -80,4 +85,4 @@ kea_subnet above known d = do
   _ ← must (is_at_server above.server prefix (get (codes "interface") d))
   class ← text_if_given (get (codes "client-class") d)
   outside ← flag_or above.outside (get (codes "reservations-out-of-pool") d)
-  kea_subnet_with known (has_bare_names above.bare d) outside above.boot prefix (unless_empty class) d
+  kea_subnet_with known above.kinds (has_bare_names above.bare d) outside above.boot prefix (unless_empty class) d

@@ -170,6 +170,8 @@ pool_keys =
 abbrev pub host_keys : List (List ℕ × KeyUse)
 host_keys =
     (codes "hw-address", served)
+    ∷ (codes "duid", served)
+    ∷ (codes "circuit-id", served)
     ∷ (codes "client-id", served)
     ∷ (codes "ip-address", served)
     ∷ (codes "hostname", served)

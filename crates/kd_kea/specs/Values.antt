@@ -38,10 +38,9 @@ has_whole_bytes (a ∷ b ∷ text) =
     else not (is_between_bytes b) && has_whole_bytes text
 
 -- a value, if it is a text, has whole bytes
-abbrev pub is_whole_if_given : Option Data → Bool
-is_whole_if_given None = true
-is_whole_if_given (Some (string text)) = has_whole_bytes text
-is_whole_if_given (Some d) = true
+abbrev pub is_whole_text : Data → Bool
+is_whole_text (string text) = has_whole_bytes text
+is_whole_text d = true
 
 -- a text, unless it is empty
 abbrev pub unless_empty : Option (List ℕ) → Option (List ℕ)

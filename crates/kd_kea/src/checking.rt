@@ -5,7 +5,7 @@ ghost use Rattle.serde_json.specs.View.{view};
 ghost use Rattle.kd_json.specs.Gives.{Means};
 ghost use Rattle.kd_json.specs.Steps.{must};
 ghost use Rattle.kd_json.specs.declared.objects.faults.SettingsFault.TheVariants.{Memory};
-ghost use Rattle.kd_kea.specs.Keys.{key_use, keys_are_read, may_have};
+ghost use Rattle.kd_kea.specs.Keys.{key_use, keys_are_read, allows_value};
 ghost use Rattle.kd_kea.specs.Tables.{key_table};
 
 use crate::keys::{KeyRule, is_among, rule_in};
@@ -45,7 +45,7 @@ fn refused_key<'a>(
     kind: ObjectKind,
 ) -> Option<&'a String>
     ensures { option_map (λ key. key.now) result
-        ≡ find (λ key. not (may_have (key_use (key_table kind) (string_bytes key))
+        ≡ find (λ key. not (allows_value (key_use (key_table kind) (string_bytes key))
         (get (string_bytes key) (view object.now)))) (map (λ m. m.0) members.now.entries) }
 {
     members
@@ -56,7 +56,7 @@ fn refused_key<'a>(
 // Reports whether a key may have the value that it has in an object.
 pub(crate) fn is_allowed(kind: ObjectKind, key: &str, object: &Value) -> bool
     ensures { result
-        ≡ may_have (key_use (key_table kind) key.now) (get key.now (view object.now)) }
+        ≡ allows_value (key_use (key_table kind) key.now) (get key.now (view object.now)) }
 {
     if key.as_bytes().starts_with(UPDATES) {
         return true;

@@ -208,6 +208,8 @@ const POOL: &[Row] = &[
 // Keys of a reservation.
 const RESERVATION: &[Row] = &[
     ("hw-address", KeyRule::Served),
+    ("duid", KeyRule::Served),
+    ("circuit-id", KeyRule::Served),
     ("client-id", KeyRule::Served),
     ("ip-address", KeyRule::Served),
     ("hostname", KeyRule::Served),

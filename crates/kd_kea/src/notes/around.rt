@@ -6,6 +6,7 @@ use crate::objects::alone::read_alone;
 use crate::objects::boot::written_boot;
 use crate::objects::definition::{Definition, known_definitions};
 use crate::objects::flags::{flag_at, flag_in, flag_or_default};
+use crate::objects::host_kinds::{HostKinds, kinds_of_server};
 use crate::objects::host_name::{names_are_bare, server_names_are_bare};
 use crate::objects::options::options_of;
 use crate::objects::policy::{Policy, written_policy};
@@ -37,6 +38,8 @@ pub(crate) struct Around {
     pub(crate) shares: Shares,
     // Reservations are looked for outside pools alone, unless a subnet says otherwise.
     pub(crate) outside: Option<bool>,
+    // By which kinds of identity reservations are looked for.
+    pub(crate) kinds: HostKinds,
     // Host names have no suffix, unless a subnet says otherwise.
     pub(crate) bare: bool,
     // What holds of clients.
@@ -64,6 +67,7 @@ pub(super) fn read_around(
         calculated: flag_in(dhcp4, "calculate-tee-times"),
         shares: shares_in(dhcp4),
         outside: flag_in(dhcp4, "reservations-out-of-pool"),
+        kinds: kinds_of_server(dhcp4),
         bare: server_names_are_bare(dhcp4),
         policy: written_policy(dhcp4),
         boot: written_boot(dhcp4),
@@ -150,6 +154,7 @@ pub(super) fn above_in(around: Around) -> Option<Above>
         calculated,
         shares: around.shares,
         outside,
+        kinds: around.kinds,
         bare: around.bare,
         policy,
         boot,
@@ -161,6 +166,8 @@ pub(super) fn above_in(around: Around) -> Option<Above>
 struct BesideReader<'a> {
     // Reservations are looked for outside pools alone, unless the subnet says otherwise.
     outside: Option<bool>,
+    // By which kinds of identity reservations are looked for.
+    kinds: HostKinds,
     // Host names have no suffix, unless the subnet says otherwise.
     bare: bool,
     // The definitions of options.
@@ -170,7 +177,7 @@ struct BesideReader<'a> {
 impl<'a> EntryReader for BesideReader<'a> {
     type Entry = bool;
 
-    ghost means = { λ reader. kea_beside reader.outside reader.bare reader.known.now };
+    ghost means = { λ reader. kea_beside reader.outside reader.kinds reader.bare reader.known.now };
 
     #[tactic(auto, unfolding(crate::specs::Notes::kea_beside))]
     fn read(&self, alloc: Global, subnet: &Value, at: &Place<'_>) -> Result<bool, SettingsFault> {
@@ -182,6 +189,7 @@ impl<'a> EntryReader for BesideReader<'a> {
         let pools = pools_of(alloc, subnet, at, self.known)?;
         let reader = ReservationReader {
             known: self.known,
+            kinds: self.kinds,
             bare: names_are_bare(subnet, self.bare),
         };
         let hosts = entries_of(alloc, subnet, at, "reservations", 4096, &reader)?;
@@ -197,10 +205,11 @@ pub(super) fn is_beside(
     known: &[Definition],
 ) -> Result<bool, AllocError>
     ensures { IfOk result (λ passed. passed
-        ≡ is_not_failed (kea_beside around.outside around.bare known.now (view subnet.now))) }
+        ≡ is_not_failed (kea_beside around.outside around.kinds around.bare known.now (view subnet.now))) }
 {
     let reader = BesideReader {
         outside: around.outside,
+        kinds: around.kinds,
         bare: around.bare,
         known,
     };

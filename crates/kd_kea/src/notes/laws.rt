@@ -13,6 +13,7 @@ ghost use Rattle.kd_kea.specs.Options.{kea_entry};
 ghost use Rattle.kd_kea.specs.Pool.{kea_pool};
 ghost use Rattle.kd_kea.specs.Reservation.{kea_reservation};
 ghost use Rattle.kd_kea.specs.declared.objects.definition.Definition.{Definition};
+ghost use Rattle.kd_kea.specs.declared.objects.host_kinds.HostKinds.{HostKinds};
 ghost use Rattle.kd_kea.specs.Tables.{key_table};
 ghost use Rattle.kd_kea.specs.declared.tables.ObjectKind.{ObjectKind};
 
@@ -52,7 +53,7 @@ pub fn what_is_not_served_is_refused()
         → kea_class known d ≡ None → have_refused (class_notes known path d) ≡ true }
     ensures pool { (known : List Definition) (path : List ℕ) (d : Data)
         → kea_pool known d ≡ None → have_refused (pool_notes known path d) ≡ true }
-    ensures reservation { (known : List Definition) (bare : Bool) (path : List ℕ) (d : Data)
-        → kea_reservation known bare d ≡ None
-        → have_refused (host_notes known bare path d) ≡ true }
+    ensures reservation { (known : List Definition) (kinds : HostKinds) (bare : Bool)
+        (path : List ℕ) (d : Data) → kea_reservation known kinds bare d ≡ None
+        → have_refused (host_notes known kinds bare path d) ≡ true }
 {}

@@ -233,6 +233,7 @@ fn around_inside(network: &Value, around: Around) -> Around
         calculated: around.calculated,
         shares: around.shares,
         outside: written_outside(network, around.outside),
+        kinds: around.kinds,
         bare: names_are_bare(network, around.bare),
         policy: around.policy,
         boot: boot_inside(network, around.boot),

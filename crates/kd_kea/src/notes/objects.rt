@@ -14,7 +14,7 @@ use crate::notes::around::{Around, BelowReader, is_beside, read_around};
 use crate::notes::list::NoteList;
 use crate::notes::networks::NetworkObject;
 use crate::notes::values::{
-    note_boot, note_name, note_server_flags, note_server_times, note_server_values,
+    note_boot, note_host_values, note_server_flags, note_server_times, note_server_values,
     note_subnet_own, note_subnet_values, note_text,
 };
 use crate::notes::walk::{
@@ -219,7 +219,12 @@ impl<'a> NotedObject for SubnetObject<'a> {
             "reservations-out-of-pool",
             NoteKind::Unknown,
         )?;
-        note_subnet_lists(&mut inner, subnet, path, self.known, self.around.bare)?;
+        let hosts = ReservationReader {
+            known: self.known,
+            kinds: self.around.kinds,
+            bare: self.around.bare,
+        };
+        note_subnet_lists(&mut inner, subnet, path, hosts)?;
         append_checked(notes, inner, &reader, subnet, path)
     }
 }
@@ -241,49 +246,51 @@ fn note_subnet_keys(
     note_subnet_own(notes, subnet, path)
 }
 
-// Notes the lists and the relay of a subnet, by these definitions of options. `bare` says that host
-// names have no suffix above it.
+// Notes the lists and the relay of a subnet, whose reservations are read in this way if it does not
+// say otherwise.
 #[tactic(auto, unfolding(crate::specs::Notes::subnet_lists))]
 fn note_subnet_lists(
     notes: &mut NoteList,
     subnet: &Value,
     path: &str,
-    known: &[Definition],
-    bare: bool,
+    hosts: ReservationReader<'_>,
 ) -> Result<(), AllocError>
-    ensures { OnOk result
-        (notes.new ≡ notes.old ++ subnet_lists known.now bare path.now (view subnet.now)) }
+    ensures { OnOk result (notes.new ≡ notes.old
+        ++ subnet_lists hosts.entry.known.now hosts.entry.kinds hosts.entry.bare path.now
+        (view subnet.now)) }
 {
     let pools = Listed {
         key: "pools",
         most: 64,
     };
+    let known = hosts.known;
     note_part_options(notes, subnet, path, known)?;
     note_list(notes, subnet, path, pools, PoolObject { known })?;
-    note_hosts(notes, subnet, path, known, bare)?;
+    note_hosts(notes, subnet, path, hosts)?;
     note_value(notes, subnet, path, "relay", RelayObject)
 }
 
-// Notes the reservations of a subnet, by these definitions of options. `bare` says that host names
-// have no suffix above it.
+// Notes the reservations of a subnet, which are read in this way if it does not say otherwise.
 fn note_hosts(
     notes: &mut NoteList,
     subnet: &Value,
     path: &str,
-    known: &[Definition],
-    bare: bool,
+    above: ReservationReader<'_>,
 ) -> Result<(), AllocError>
     ensures { OnOk result (notes.new ≡ notes.old
-        ++ listed_notes 4096 (host_notes known.now (has_bare_names bare (view subnet.now)))
+        ++ listed_notes 4096 (host_notes above.entry.known.now above.entry.kinds
+        (has_bare_names above.entry.bare (view subnet.now)))
         (codes "reservations") path.now (view subnet.now)) }
 {
     let hosts = Listed {
         key: "reservations",
         most: 4096,
     };
+    let known = above.known;
     let reader = ReservationReader {
         known,
-        bare: names_are_bare(subnet, bare),
+        kinds: above.kinds,
+        bare: names_are_bare(subnet, above.bare),
     };
     note_list(notes, subnet, path, hosts, HostObject { reader })
 }
@@ -328,7 +335,7 @@ struct HostObject<'a> {
 }
 
 impl<'a> NotedObject for HostObject<'a> {
-    ghost noted = { λ it. host_notes it.reader.known.now it.reader.bare };
+    ghost noted = { λ it. host_notes it.reader.known.now it.reader.kinds it.reader.bare };
 
     #[tactic(auto, unfolding(crate::specs::Notes::host_notes))]
     fn note(self, notes: &mut NoteList, host: &Value, path: &str) -> Result<(), AllocError> {
@@ -337,7 +344,7 @@ impl<'a> NotedObject for HostObject<'a> {
         }
         let mut inner = NoteList::new(notes.allocator());
         note_keys(&mut inner, host, path, ObjectKind::Reservation)?;
-        note_name(&mut inner, host, path, self.reader.bare)?;
+        note_host_values(&mut inner, host, path, self.reader)?;
         note_boot(&mut inner, host, path)?;
         note_part_options(&mut inner, host, path, self.reader.known)?;
         append_checked(notes, inner, &self.reader, host, path)

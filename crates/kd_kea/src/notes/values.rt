@@ -4,7 +4,7 @@ ghost use Rattle.serde_json.specs.View.{view};
 ghost use Rattle.kd_config.specs.Sound.{longest_lease};
 ghost use Rattle.kd_json.specs.Subnet.{subnet_prefix};
 ghost use Rattle.kd_json.specs.Values.{number_if_given, text_if_given};
-ghost use Rattle.kd_kea.specs.Notes.{boot_notes, calculated_notes, flag_note, hook_kind, hook_notes, inherited_notes, interface_notes, lease_notes, limit_notes, name_notes, number_note, off_notes, policy_notes, repeated_notes, repeated_shares, server_flags, server_times, server_values, service_notes, share_notes, subnet_own, subnet_values, text_note, time_note, unused_share, unused_shares, usual_note};
+ghost use Rattle.kd_kea.specs.Notes.{boot_notes, calculated_notes, flag_note, hook_kind, hook_notes, host_values, inherited_notes, interface_notes, kind_notes, lease_notes, limit_notes, name_notes, number_note, off_notes, policy_notes, repeated_notes, repeated_shares, server_flags, server_times, server_values, service_notes, share_notes, subnet_own, subnet_values, text_note, time_note, unused_share, unused_shares, usual_note};
 ghost use Rattle.kd_kea.specs.Rows.{plain_of};
 
 use crate::keys::{UsualValue, is_usual};
@@ -17,9 +17,11 @@ use crate::objects::alone::read_alone;
 use crate::objects::boot::{written_file, written_name, written_server};
 use crate::objects::flags::{flag_in, is_usual_at};
 use crate::objects::hooks::are_quiet_hooks;
+use crate::objects::host_kinds::{HostKinds, all_kinds, has_identifiers, key_of_kind};
 use crate::objects::host_name::may_have_name;
 use crate::objects::policy::Policy;
-use crate::objects::settings::{has_identifiers, is_off};
+use crate::objects::reservation::ReservationReader;
+use crate::objects::settings::is_off;
 use crate::objects::subnet::{has_server_interface, written_prefix};
 use crate::objects::times::{
     HALF, LONGEST, SEVEN_EIGHTHS, Shares, are_usable, key_of_shares, key_of_times, shares_in,
@@ -523,13 +525,40 @@ fn is_text(object: &Value, key: &str) -> bool
     }
 }
 
-// Notes the host name of a reservation, if it is wrong or would have a suffix.
-pub(super) fn note_name(
+// Notes the keys of a reservation by which reservations are not looked for, and its host name.
+#[tactic(auto, unfolding(crate::specs::Notes::host_values))]
+pub(super) fn note_host_values(
     notes: &mut NoteList,
     host: &Value,
     path: &str,
-    bare: bool,
+    reader: ReservationReader<'_>,
 ) -> Result<(), AllocError>
+    ensures { OnOk result (notes.new ≡ notes.old
+        ++ host_values reader.entry.kinds reader.entry.bare path.now (view host.now)) }
+{
+    note_kinds(notes, host, path, reader.kinds)?;
+    note_name(notes, host, path, reader.bare)
+}
+
+// Notes the keys of a reservation by which reservations are not looked for.
+fn note_kinds(
+    notes: &mut NoteList,
+    host: &Value,
+    path: &str,
+    kinds: HostKinds,
+) -> Result<(), AllocError>
+    ensures { OnOk result (notes.new ≡ notes.old ++ kind_notes kinds path.now (view host.now)) }
+{
+    let order = all_kinds();
+    for kind in order {
+        let found = kinds.allow(host, *kind);
+        note_failed(notes, found, path, key_of_kind(*kind), NoteKind::Unknown)?;
+    }
+    Ok(())
+}
+
+// Notes the host name of a reservation, if it is wrong or would have a suffix.
+fn note_name(notes: &mut NoteList, host: &Value, path: &str, bare: bool) -> Result<(), AllocError>
     ensures { OnOk result (notes.new ≡ notes.old ++ name_notes bare path.now (view host.now)) }
 {
     match read_alone(notes.allocator(), &NameReader, host)? {

@@ -9,6 +9,8 @@ pub(crate) mod document;
 pub(crate) mod entry;
 pub(crate) mod flags;
 pub(crate) mod hooks;
+mod host_client;
+pub(crate) mod host_kinds;
 pub(crate) mod host_name;
 mod inside;
 pub(crate) mod network;

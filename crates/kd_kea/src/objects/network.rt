@@ -213,6 +213,7 @@ fn above_in(network: &Value, above: Above, outside: bool, boot: Boot) -> Above
         calculated: above.calculated,
         shares: above.shares,
         outside,
+        kinds: above.kinds,
         bare: names_are_bare(network, above.bare),
         policy: above.policy,
         boot: boot.or(above.boot),
@@ -294,19 +295,25 @@ fn member_of(
 ) -> Result<Subnet, SettingsFault>
     ensures { Means Memory result (as_member common.now subnet) }
 {
-    let class = class_of_both(alloc, at, subnet.class, &common.class)?;
-    let pools = subnet.pools;
-    let reservations = subnet.reservations;
-    check_class(alloc, at, &class, pools.as_slice(), reservations.as_slice())?;
+    let class = class_of_both(alloc, at, &subnet.class, &common.class)?;
+    check_class(
+        alloc,
+        at,
+        &class,
+        subnet.pools.as_slice(),
+        subnet.reservations.as_slice(),
+    )?;
+    let relays = relays_of_both(alloc, subnet.relays.as_slice(), common.relays.as_slice())?;
+    let shared = options_copied(alloc, common.options.as_slice())?;
     Ok(Subnet {
         prefix: subnet.prefix,
-        relays: relays_of_both(alloc, subnet.relays, common.relays.as_slice())?,
+        relays,
         class,
-        pools,
-        reservations,
+        pools: subnet.pools,
+        reservations: subnet.reservations,
         options: subnet.options,
         network: 0,
-        shared: options_copied(alloc, common.options.as_slice())?,
+        shared,
         boot: subnet.boot,
     })
 }
@@ -315,30 +322,26 @@ fn member_of(
 fn class_of_both(
     alloc: Global,
     at: &Place<'_>,
-    own: Option<Bytes>,
+    own: &Option<Bytes>,
     other: &Option<Bytes>,
 ) -> Result<Option<Bytes>, SettingsFault>
-    ensures { Means Memory result (one_class own other.now) }
+    ensures { Means Memory result (one_class own.now other.now) }
 {
     match (own, other) {
-        (None, other) => Ok(class_copied(alloc, other)?),
-        (own, None) => Ok(own),
+        (None, _) => Ok(class_copied(alloc, other)?),
+        (Some(_), None) => Ok(class_copied(alloc, own)?),
         (Some(_), Some(_)) => Err(unknown(alloc, at, "client-class")),
     }
 }
 
 // Returns the relays of a member: its own, or those of its network if it names none.
-fn relays_of_both(
-    alloc: Global,
-    own: Entries<u32>,
-    others: &[u32],
-) -> Result<Entries<u32>, AllocError>
-    ensures { IfOk result (λ relays. relays ≡ relays_or own others.now) }
+fn relays_of_both(alloc: Global, own: &[u32], others: &[u32]) -> Result<Entries<u32>, AllocError>
+    ensures { IfOk result (λ relays. relays ≡ relays_or own.now others.now) }
 {
-    if own.as_slice().is_empty() {
+    if own.is_empty() {
         Ok(Entries::own(Vec::from_slice(alloc, others)?))
     } else {
-        Ok(own)
+        Ok(Entries::own(Vec::from_slice(alloc, own)?))
     }
 }
 

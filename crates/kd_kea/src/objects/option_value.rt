@@ -1,19 +1,17 @@
-ghost use Rattle.std.specs.Prelude.{◌≡◌, codes, option_and_then, option_map};
+ghost use Rattle.std.specs.Prelude.{◌≡◌, codes};
 ghost use Rattle.std.specs.Option.{option_copied};
-ghost use Rattle.serde_json.specs.Find.{as_str, get};
+ghost use Rattle.serde_json.specs.Find.{get};
 ghost use Rattle.serde_json.specs.View.{view};
 ghost use Rattle.kd_json.specs.Gives.{Means};
 ghost use Rattle.kd_json.specs.declared.objects.faults.SettingsFault.TheVariants.{Memory};
 ghost use Rattle.kd_kea.specs.OptionValue.{are_bytes, data_as_text, data_by, fields_data, hex_data, is_hexadecimal, is_text_given, standard_type, text_data, text_kind};
-ghost use Rattle.kd_kea.specs.Quoted.{bytes_in_quotes};
 
 use crate::objects::definition::Definition;
 use crate::objects::flags::text_or_default;
-use crate::objects::quoted::text_in_quotes;
+use crate::objects::quoted::read_bytes;
 use crate::objects::space::is_of_messages;
-use crate::objects::whole_bytes::{check_whole, is_whole};
+use crate::objects::whole_bytes::is_whole;
 use kd_json::objects::faults::SettingsFault;
-use kd_json::objects::values::{bytes_at, own_bytes};
 use kd_json::rules::place::{Place, bad_place, bad_value, missing};
 use kd_names::{Kind, kind_of};
 use kd_values::{FieldType, fields_of, value_of};
@@ -180,26 +178,8 @@ fn is_in_hexadecimal(kind: Kind) -> bool
 fn read_hexadecimal(alloc: Global, option: &Value, at: &Place<'_>) -> Result<Bytes, SettingsFault>
     ensures { Means Memory result (hex_data (get (codes "data") (view option.now))) }
 {
-    let Some(data) = option.get("data") else {
-        return Ok(Bytes::own(Vec::new(alloc)));
-    };
-    match quoted_in(data) {
-        Some(bytes) if bytes.len() <= LONGEST_VALUE => Ok(own_bytes(alloc, bytes)?),
-        Some(_) => Err(bad_value(alloc, at, "data")),
-        None => {
-            check_whole(alloc, option, at, "data")?;
-            bytes_at(alloc, data, &Place::Key(&*at, "data"), 0, LONGEST_VALUE)
-        }
-    }
-}
-
-// Returns the bytes of a value that is a text in quotation marks.
-fn quoted_in(value: &Value) -> Option<&[u8]>
-    ensures { option_map (λ bytes. bytes.now) result
-        ≡ option_and_then bytes_in_quotes (as_str (view value.now)) }
-{
-    match value.as_str() {
-        Some(text) => text_in_quotes(text.as_bytes()),
-        None => None,
+    match option.get("data") {
+        Some(data) => read_bytes(alloc, data, &Place::Key(&*at, "data"), LONGEST_VALUE),
+        None => Ok(Bytes::own(Vec::new(alloc))),
     }
 }

@@ -1,10 +1,52 @@
-ghost use Rattle.std.specs.Prelude.{◌≡◌, option_map, reverse};
-ghost use Rattle.kd_kea.specs.Quoted.{a_blank_here, behind_blanks, between_ends, is_in_quotes, bytes_in_quotes, without_blanks};
+ghost use Rattle.std.specs.Prelude.{◌≡◌, option_and_then, option_map, reverse};
+ghost use Rattle.serde_json.specs.Find.{as_str};
+ghost use Rattle.serde_json.specs.View.{view};
+ghost use Rattle.kd_json.specs.Gives.{Means};
+ghost use Rattle.kd_json.specs.declared.objects.faults.SettingsFault.TheVariants.{Memory};
+ghost use Rattle.kd_kea.specs.Quoted.{a_blank_here, behind_blanks, between_ends, bytes_in_quotes, bytes_written, is_in_quotes, without_blanks};
+
+use crate::objects::whole_bytes::check_whole;
+use kd_json::objects::faults::SettingsFault;
+use kd_json::objects::values::{bytes_at, own_bytes};
+use kd_json::rules::place::{Place, bad_place};
+use kd_wire::Bytes;
+use serde_json::Value;
+use std::alloc::Global;
+
+// Reads the bytes of a value, in single quotation marks or else in hexadecimal: at most `most`.
+pub(crate) fn read_bytes(
+    alloc: Global,
+    value: &Value,
+    at: &Place<'_>,
+    most: usize,
+) -> Result<Bytes, SettingsFault>
+    ensures { Means Memory result (bytes_written most (view value.now)) }
+{
+    match quoted_in(value) {
+        Some(bytes) if bytes.len() <= most => Ok(own_bytes(alloc, bytes)?),
+        Some(_) => Err(bad_place(alloc, at)),
+        None => {
+            check_whole(alloc, value, at)?;
+            bytes_at(alloc, value, at, 0, most)
+        }
+    }
+}
+
+// Returns the bytes of a value that is a text in quotation marks.
+fn quoted_in(value: &Value) -> Option<&[u8]>
+    ensures { option_map (λ bytes. bytes.now) result
+        ≡ option_and_then bytes_in_quotes (as_str (view value.now)) }
+{
+    match value.as_str() {
+        Some(text) => text_in_quotes(text.as_bytes()),
+        None => None,
+    }
+}
 
 // Returns the bytes of a text in single quotation marks, without blanks around the marks and inside
 // them, if any are left.
 #[tactic(auto, unfolding(crate::specs::Quoted::bytes_in_quotes))]
-pub(crate) fn text_in_quotes(text: &[u8]) -> Option<&[u8]>
+fn text_in_quotes(text: &[u8]) -> Option<&[u8]>
     ensures { option_map (λ bytes. bytes.now) result ≡ bytes_in_quotes text.now }
 {
     let whole = trimmed(text);

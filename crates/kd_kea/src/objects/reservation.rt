@@ -1,17 +1,22 @@
-ghost use Rattle.kd_kea.specs.Reservation.{kea_reservation};
+ghost use Rattle.std.specs.Prelude.{codes};
+ghost use Rattle.serde_json.specs.Find.{get};
+ghost use Rattle.serde_json.specs.View.{view};
+ghost use Rattle.kd_json.specs.Gives.{Means};
+ghost use Rattle.kd_json.specs.declared.objects.faults.SettingsFault.TheVariants.{Memory};
+ghost use Rattle.kd_kea.specs.Reservation.{address_if_given, kea_reservation};
 
 use crate::checking::check_keys;
 use crate::objects::boot::{boot_list, own_boot_of};
 use crate::objects::definition::Definition;
+use crate::objects::host_client::client_of;
+use crate::objects::host_kinds::{HostKinds, check_kinds};
 use crate::objects::host_name::host_options_of;
-use crate::objects::whole_bytes::check_whole;
 use crate::tables::ObjectKind;
 use kd_config::Reservation;
 use kd_json::objects::faults::SettingsFault;
 use kd_json::objects::lists::EntryReader;
-use kd_json::objects::reservation::identity_in;
 use kd_json::objects::values::address_in;
-use kd_json::rules::place::{Place, bad_value, missing};
+use kd_json::rules::place::{Place, bad_value};
 use serde_json::Value;
 use std::alloc::Global;
 
@@ -20,6 +25,8 @@ use std::alloc::Global;
 pub(crate) struct ReservationReader<'a> {
     // The definitions of options.
     pub(crate) known: &'a [Definition],
+    // By which kinds of identity reservations are looked for.
+    pub(crate) kinds: HostKinds,
     // Host names have no suffix.
     pub(crate) bare: bool,
 }
@@ -27,7 +34,7 @@ pub(crate) struct ReservationReader<'a> {
 impl<'a> EntryReader for ReservationReader<'a> {
     type Entry = Reservation;
 
-    ghost means = { λ reader. kea_reservation reader.known.now reader.bare };
+    ghost means = { λ reader. kea_reservation reader.known.now reader.kinds reader.bare };
 
     #[tactic(auto, unfolding(crate::specs::Reservation::kea_reservation))]
     fn read(
@@ -37,15 +44,9 @@ impl<'a> EntryReader for ReservationReader<'a> {
         at: &Place<'_>,
     ) -> Result<Reservation, SettingsFault> {
         check_keys(alloc, value, at, ObjectKind::Reservation)?;
-        check_whole(alloc, value, at, "hw-address")?;
-        check_whole(alloc, value, at, "client-id")?;
-        let identity = identity_in(alloc, value, at)?;
-        let Some(text) = value.get("ip-address") else {
-            return Err(missing(alloc, at, "ip-address"));
-        };
-        let Some(address) = address_in(text) else {
-            return Err(bad_value(alloc, at, "ip-address"));
-        };
+        check_kinds(alloc, value, at, self.kinds)?;
+        let identity = client_of(alloc, value, at)?;
+        let address = given_address(alloc, value, at)?;
         let options = host_options_of(alloc, value, at, self.known, self.bare)?;
         let boot = own_boot_of(alloc, value, at)?;
         Ok(Reservation {
@@ -54,5 +55,18 @@ impl<'a> EntryReader for ReservationReader<'a> {
             options,
             boots: boot_list(alloc, boot)?,
         })
+    }
+}
+
+// Reads the address of a reservation, if it is given.
+fn given_address(alloc: Global, host: &Value, at: &Place<'_>) -> Result<Option<u32>, SettingsFault>
+    ensures { Means Memory result (address_if_given (get (codes "ip-address") (view host.now))) }
+{
+    let Some(value) = host.get("ip-address") else {
+        return Ok(None);
+    };
+    match address_in(value) {
+        Some(address) => Ok(Some(address)),
+        None => Err(bad_value(alloc, at, "ip-address")),
     }
 }

@@ -1,23 +1,22 @@
-ghost use Rattle.std.specs.Prelude.{◌≡◌, Some, codes, not};
+ghost use Rattle.std.specs.Prelude.{◌≡◌, Some, not};
 ghost use Rattle.kd_config.specs.Configuration.{kea_extensions};
 ghost use Rattle.serde_json.specs.Find.{get};
-ghost use Rattle.serde_json.specs.View.{items_view, view};
+ghost use Rattle.serde_json.specs.View.{view};
 ghost use Rattle.kd_json.specs.Gives.{Means};
 ghost use Rattle.kd_json.specs.Steps.{must};
 ghost use Rattle.kd_json.specs.declared.objects.faults.SettingsFault.TheVariants.{Memory};
-ghost use Rattle.kd_kea.specs.Keys.{word};
 ghost use Rattle.kd_kea.specs.Options.{server_address};
 ghost use Rattle.kd_kea.specs.Rows.{plain_of};
-ghost use Rattle.kd_kea.specs.Values.{has_plain};
-ghost use Rattle.kd_kea.specs.Settings.{finds_reservations, has_server_form, kea_dhcp4, kea_root, kea_settings_with, turns_nothing_on};
+ghost use Rattle.kd_kea.specs.Settings.{has_server_form, kea_dhcp4, kea_root, kea_settings_with, turns_nothing_on};
 
 use crate::checking::check_keys;
-use crate::keys::{UsualValue, is_usual};
+use crate::keys::UsualValue;
 use crate::objects::boot::boot_of;
 use crate::objects::class::ClassReader;
 use crate::objects::definition::{Definition, known_definitions};
 use crate::objects::flags::{check_usual, flag_at, is_usual_at};
 use crate::objects::hooks::check_hooks;
+use crate::objects::host_kinds::{check_identifiers, kinds_of_server};
 use crate::objects::host_name::server_names_are_bare;
 use crate::objects::network::subnets_of;
 use crate::objects::options::{address_among, options_of, without_server};
@@ -31,7 +30,7 @@ use kd_config::Extensions;
 use kd_json::objects::faults::SettingsFault;
 use kd_json::objects::lists::entries_of;
 use kd_json::objects::settings::Settings;
-use kd_json::rules::place::{Place, bad_value, missing, unknown};
+use kd_json::rules::place::{Place, bad_value, missing};
 use serde_json::Value;
 use std::alloc::Global;
 
@@ -78,6 +77,7 @@ pub(crate) fn settings_of(
         calculated,
         shares: shares_in(value),
         outside,
+        kinds: kinds_of_server(value),
         bare: server_names_are_bare(value),
         policy,
         boot,
@@ -197,43 +197,4 @@ pub(crate) fn is_off(object: &Value, key: &str, usual: UsualValue) -> bool
     ensures { result ≡ turns_nothing_on key.now (plain_of usual) (Some (view object.now)) }
 {
     object.as_object().is_some() && is_usual_at(object, key, usual)
-}
-
-// Checks that reservations are looked for by hardware address and by identifier.
-fn check_identifiers(alloc: Global, dhcp4: &Value, at: &Place<'_>) -> Result<(), SettingsFault>
-    ensures { Means Memory result
-        (must (finds_reservations
-        (get (codes "host-reservation-identifiers") (view dhcp4.now)))) }
-{
-    if has_identifiers(dhcp4) {
-        Ok(())
-    } else {
-        Err(unknown(alloc, at, "host-reservation-identifiers"))
-    }
-}
-
-// Reports whether reservations are looked for by hardware address and by identifier.
-pub(crate) fn has_identifiers(dhcp4: &Value) -> bool
-    ensures { result
-        ≡ finds_reservations (get (codes "host-reservation-identifiers") (view dhcp4.now)) }
-{
-    let Some(value) = dhcp4.get("host-reservation-identifiers") else {
-        return true;
-    };
-    match value.as_array() {
-        Some(names) => has_text(names, "hw-address") && has_text(names, "client-id"),
-        None => false,
-    }
-}
-
-// Reports whether one of these values is this text.
-fn has_text(values: &[Value], text: &'static str) -> bool
-    ensures { result ≡ has_plain (word text.now) (items_view values.now) }
-{
-    for value in values {
-        if is_usual(UsualValue::Text(text), value) {
-            return true;
-        }
-    }
-    false
 }

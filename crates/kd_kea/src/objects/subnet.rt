@@ -10,12 +10,13 @@ ghost use Rattle.kd_json.specs.Subnet.{subnet_prefix};
 ghost use Rattle.kd_json.specs.declared.objects.faults.SettingsFault.TheVariants.{Memory};
 ghost use Rattle.kd_kea.specs.Parts.{parts_of_all};
 ghost use Rattle.kd_kea.specs.Pool.{kea_pool};
-ghost use Rattle.kd_kea.specs.Subnet.{has_subnet_form, is_at_server, kea_subnet, kea_subnet_with, lies_outside, stand_beside};
+ghost use Rattle.kd_kea.specs.Subnet.{has_subnet_form, is_at_server, is_in_none, kea_subnet, kea_subnet_with, lies_outside, stand_beside};
 
 use crate::checking::check_keys;
 use crate::objects::boot::boot_of;
 use crate::objects::definition::Definition;
 use crate::objects::flags::{flag_or_default, non_empty};
+use crate::objects::host_kinds::HostKinds;
 use crate::objects::host_name::names_are_bare;
 use crate::objects::options::options_of;
 use crate::objects::parts::parts_of_pools;
@@ -50,6 +51,8 @@ pub(crate) struct Above {
     pub(crate) shares: Shares,
     // Reservations are looked for outside pools alone, unless a subnet says otherwise.
     pub(crate) outside: bool,
+    // By which kinds of identity reservations are looked for.
+    pub(crate) kinds: HostKinds,
     // Host names have no suffix, unless a subnet says otherwise.
     pub(crate) bare: bool,
     // What holds of clients.
@@ -91,6 +94,7 @@ impl<'a> EntryReader for SubnetReader<'a> {
         )?;
         let hosts = ReservationReader {
             known: self.known,
+            kinds: self.above.kinds,
             bare: names_are_bare(value, self.above.bare),
         };
         subnet_of_lists(
@@ -184,7 +188,7 @@ fn subnet_of_lists(
     class: Option<Bytes>,
 ) -> Result<Subnet, SettingsFault>
     ensures { Means Memory result
-        (kea_subnet_with hosts.entry.known.now hosts.entry.bare outside above prefix class
+        (kea_subnet_with hosts.entry.known.now hosts.entry.kinds hosts.entry.bare outside above prefix class
         (view value.now)) }
 {
     let relays = relays_in(alloc, value, at)?;
@@ -257,7 +261,17 @@ pub(crate) fn may_be_beside(outside: bool, pools: &[Pool], reservations: &[Reser
 fn are_outside(pools: &[Pool], reservations: &[Reservation]) -> bool
     ensures { result ≡ list_all (lies_outside pools.now) reservations.now }
 {
-    reservations.iter().all(|it| !is_inside(pools, it.address))
+    reservations.iter().all(|it| is_outside(pools, it.address))
+}
+
+// Reports whether no pool has an address, or there is no address.
+fn is_outside(pools: &[Pool], address: Option<u32>) -> bool
+    ensures { result ≡ is_in_none pools.now address }
+{
+    match address {
+        Some(address) => !is_inside(pools, address),
+        None => true,
+    }
 }
 
 // Reports whether a pool has an address.

@@ -1,30 +1,21 @@
-ghost use Rattle.serde_json.specs.Find.{get};
 ghost use Rattle.serde_json.specs.View.{view};
 ghost use Rattle.kd_json.specs.Gives.{Means};
 ghost use Rattle.kd_json.specs.Steps.{must};
 ghost use Rattle.kd_json.specs.declared.objects.faults.SettingsFault.TheVariants.{Memory};
-ghost use Rattle.kd_kea.specs.Values.{has_whole_bytes, is_between_bytes, is_whole_if_given};
+ghost use Rattle.kd_kea.specs.Values.{has_whole_bytes, is_between_bytes, is_whole_text};
 ghost use Rattle.std.specs.Prelude.{◌≡◌};
 
 use kd_json::objects::faults::SettingsFault;
-use kd_json::rules::place::{Place, bad_value};
+use kd_json::rules::place::{Place, bad_place};
 use serde_json::Value;
 use std::alloc::Global;
 
-// Checks that hexadecimal text at a key, if it is given, has both digits of each byte side by side.
-pub(crate) fn check_whole(
-    alloc: Global,
-    object: &Value,
-    at: &Place<'_>,
-    key: &'static str,
-) -> Result<(), SettingsFault>
-    ensures { Means Memory result (must (is_whole_if_given (get key.now (view object.now)))) }
+// Checks that hexadecimal text has both digits of each byte side by side.
+pub(crate) fn check_whole(alloc: Global, value: &Value, at: &Place<'_>) -> Result<(), SettingsFault>
+    ensures { Means Memory result (must (is_whole_text (view value.now))) }
 {
-    let Some(value) = object.get(key) else {
-        return Ok(());
-    };
     match value.as_str() {
-        Some(text) if !is_whole(text.as_bytes()) => Err(bad_value(alloc, at, key)),
+        Some(text) if !is_whole(text.as_bytes()) => Err(bad_place(alloc, at)),
         _ => Ok(()),
     }
 }

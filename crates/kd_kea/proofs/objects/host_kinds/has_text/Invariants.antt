@@ -2,7 +2,7 @@ use Rattle.std.proofs.Common.{◌≡◌, drop}
 use Rattle.serde_json.specs.View.{items_view}
 use Rattle.kd_kea.specs.Keys.{word}
 use Rattle.kd_kea.specs.Values.{has_plain}
-use Rattle.kd_kea.proofs.objects.settings.has_text.Given as goal
+use Rattle.kd_kea.proofs.objects.host_kinds.has_text.Given as goal
 
 abbrev pub invariant-loop-value : goal.invariant-loop-value
 invariant-loop-value l =
