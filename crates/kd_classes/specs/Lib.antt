@@ -1,3 +1,4 @@
 pub mod Order
 pub mod HeldSet
 pub mod Boot
+pub mod Lifetime

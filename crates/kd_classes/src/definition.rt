@@ -1,4 +1,5 @@
 use crate::boot::Boot;
+use crate::lifetime::Lifetime;
 use crate::option_list::OptionList;
 use kd_token::Verified;
 use kd_wire::Bytes;
@@ -14,4 +15,6 @@ pub struct ClassDef {
     pub options: OptionList,
     /// What the class gives to the boot fields of these replies.
     pub boot: Boot,
+    /// How long the leases of its members last, if it says so.
+    pub lifetime: Option<Lifetime>,
 }

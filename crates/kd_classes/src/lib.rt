@@ -14,6 +14,7 @@ mod classes;
 mod definition;
 mod fault;
 pub mod laws;
+mod lifetime;
 mod option_list;
 mod order;
 
@@ -21,5 +22,6 @@ pub use boot::{Boot, BootList};
 pub use classes::Classes;
 pub use definition::ClassDef;
 pub use fault::ClassFault;
+pub use lifetime::Lifetime;
 pub use option_list::{OptionData, OptionList};
 pub use order::is_built_in;

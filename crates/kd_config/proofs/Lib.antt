@@ -5,4 +5,4 @@ pub mod SoundBuiltin
 pub mod PoolPlaces
 pub mod ReservationPlaces
 pub mod AcceptedTests
-pub mod Unbooted
+pub mod Without

@@ -34,6 +34,7 @@ subnet = record {
   options = no_options;
   shared = no_options;
   boot = record { next_server = tt; server_name = tt; file_name = tt };
+  term = tt;
 }
 
 together : may_stand builtin_config.subnets ≡ true

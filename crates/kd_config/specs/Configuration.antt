@@ -63,6 +63,7 @@ subnet_built_in = record {
   network = 0;
   shared = [];
   boot = no_boot;
+  term = None;
 }
 
 -- the built-in configuration: the server is 192.0.2.1

@@ -8,3 +8,4 @@ pub mod Sound
 pub mod Laws
 pub mod Networks
 pub mod Booted
+pub mod Term

@@ -62,6 +62,7 @@ network_of subnets number =
       network = number;
       shared = [];
       boot = no_boot;
+      term = None;
     }
 
 -- the greatest number of a network, or 0

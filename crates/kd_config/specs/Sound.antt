@@ -6,6 +6,7 @@ use Rattle.kd_classes.specs.HeldSet.{IsAccepted}
 use Rattle.kd_classes.specs.Order.{AreInOrder}
 use Rattle.kd_classes.specs.declared.boot.Boot.{Boot}
 use Rattle.kd_classes.specs.declared.definition.ClassDef.{ClassDef}
+use Rattle.kd_classes.specs.declared.lifetime.Lifetime.{Lifetime}
 use Rattle.kd_classes.specs.declared.option_list.OptionData.{OptionData}
 use Rattle.kd_config.specs.Address.{network_address, prefix_size}
 use Rattle.kd_config.specs.Configuration.{Configuration}
@@ -18,6 +19,7 @@ use Rattle.kd_config.specs.declared.reservation.Identity.{Identity}
 use Rattle.kd_config.specs.declared.reservation.Identity.TheVariants as clients
 use Rattle.kd_config.specs.declared.reservation.Reservation.{Reservation}
 use Rattle.kd_config.specs.declared.subnet.Subnet.{Subnet}
+use Rattle.kd_config.specs.declared.term.Term.{Term}
 use Rattle.kd_config.specs.declared.times.Times.{Times}
 use Rattle.kd_options.specs.Laws.{IsField}
 
@@ -61,6 +63,13 @@ pub record AreTimes (times : Times) : Type 0 where
   pub offer_hold : IsFrom 1 86400 times.offer_hold
   pub decline_hold : IsFrom 1 31536000 times.decline_hold
 
+-- lifetimes: the bounds and what is between them
+pub record IsLifetime (lifetime : Lifetime) : Type 0 where
+  pub some : 1 ≤ lifetime.least
+  pub above : lifetime.least ≤ lifetime.usual
+  pub below : lifetime.usual ≤ lifetime.most
+  pub bounded : lifetime.most ≤ longest_lease
+
 -- a class: its test is an accepted program; the program's names are checked with the order of
 -- classes
 pub record IsClass (def : ClassDef) : Type 0 where
@@ -68,6 +77,7 @@ pub record IsClass (def : ClassDef) : Type 0 where
   pub test : IsAccepted def
   pub options : AreOptions def.options
   pub boot : IsBoot def.boot
+  pub lifetime : IfSome def.lifetime IsLifetime
 
 -- a prefix: its address has no bits set after its length, and its addresses end within 32 bits
 pub record IsPrefix (prefix : Prefix) : Type 0 where
@@ -109,6 +119,7 @@ pub record IsSubnet (subnet : Subnet) : Type 0 where
   pub options : AreOptions subnet.options
   pub shared : AreOptions subnet.shared
   pub boot : IsBoot subnet.boot
+  pub term : IfSome subnet.term (λ term. IsLifetime term.lifetime)
 
 -- subnets that are accepted together
 pub record AreSubnets (subnets : List Subnet) : Type 0 where

@@ -70,6 +70,7 @@ fn builtin_subnet(alloc: Global) -> Result<Subnet, AllocError>
         network: 0,
         shared: OptionList::own(Vec::new(alloc)),
         boot: Boot::none(),
+        term: None,
     })
 }
 

@@ -4,11 +4,13 @@ ghost use Rattle.std.specs.List.{list_any};
 ghost use Rattle.kd_config.specs.Booted.{gives_boot, has_reservations, is_some_reserved};
 ghost use Rattle.kd_config.specs.Networks.{covers, home_of, network_at, part_holding};
 ghost use Rattle.kd_config.specs.Sound.{IsSound};
+ghost use Rattle.kd_config.specs.Term.{has_term};
 
 use crate::extensions::Extensions;
 use crate::networks::{has_in, networks_of, part_of};
 use crate::reservation::Reservation;
 use crate::subnet::Subnet;
+use crate::term::Term;
 use crate::times::Times;
 use kd_classes::{Boot, Classes, OptionData, OptionList};
 use kd_wire::Entries;
@@ -31,6 +33,8 @@ pub struct Config {
     boots: bool,
     // Whether a subnet has a reservation.
     reserves: bool,
+    // Whether a subnet has times of its own for leases.
+    terms: bool,
 }
 
 impl Model for Config {
@@ -40,6 +44,7 @@ impl Model for Config {
     ghost use Rattle.kd_config.specs.Configuration.{Configuration};
     ghost use Rattle.kd_config.specs.Networks.{networks_in};
     ghost use Rattle.kd_config.specs.Sound.{IsSound};
+    ghost use Rattle.kd_config.specs.Term.{has_term};
 
     ghost Value = { Configuration };
 
@@ -61,7 +66,8 @@ impl Model for Config {
       subnets = c.subnets;
     }) × (c.networks.items ≡ networks_in c.subnets)
         × (c.boots ≡ list_any gives_boot c.subnets)
-        × (c.reserves ≡ list_any has_reservations c.subnets) };
+        × (c.reserves ≡ list_any has_reservations c.subnets)
+        × (c.terms ≡ list_any has_term c.subnets) };
 }
 
 impl Config {
@@ -99,6 +105,7 @@ impl Config {
         let networks = networks_of(alloc, subnets.as_slice())?;
         let boots = has_boot(subnets.as_slice());
         let reserves = is_any_reserving(subnets.as_slice());
+        let terms = is_any_timed(subnets.as_slice());
         Ok(Config {
             server,
             times,
@@ -109,6 +116,7 @@ impl Config {
             networks,
             boots,
             reserves,
+            terms,
         })
     }
 
@@ -217,7 +225,7 @@ impl Config {
 
     /// Returns what the subnet that has an address, in host order, gives to boot fields. It is not
     /// searched in a network if no subnet gives anything.
-    #[tactic(auto, using(crate::proofs::Unbooted::part_unbooted))]
+    #[tactic(auto, using(crate::proofs::Without::part_without_boot))]
     pub fn boot_at(&self, subnet: &Subnet, address: u32) -> Boot
         ensures { result ≡ (part_holding self.now.subnets subnet.now address).boot }
     {
@@ -225,6 +233,20 @@ impl Config {
             self.member_with(subnet, address).boot
         } else {
             Boot::none()
+        }
+    }
+
+    /// Returns the times for leases of the subnet that has an address, in host order, if it has some
+    /// of its own. It is not searched in a network if no subnet has any.
+    #[tactic(auto, using(crate::proofs::Without::part_without_term))]
+    pub fn term_at(&self, subnet: &Subnet, address: u32) -> Option<Term>
+        ensures same { result ≡ (part_holding self.now.subnets subnet.now address).term }
+        ensures sound { IsSound self.now }
+    {
+        if self.terms || subnet.term.is_some() {
+            self.member_with(subnet, address).term
+        } else {
+            None
         }
     }
 }
@@ -243,6 +265,13 @@ fn is_any_reserving(subnets: &[Subnet]) -> bool
     subnets
         .iter()
         .any(|subnet| has_some(subnet.reservations.as_slice()))
+}
+
+// Reports whether one of these subnets has times of its own for leases.
+fn is_any_timed(subnets: &[Subnet]) -> bool
+    ensures { result ≡ list_any has_term subnets.now }
+{
+    subnets.iter().any(|subnet| subnet.term.is_some())
 }
 
 // Reports whether there is a reservation.

@@ -22,6 +22,7 @@ mod range;
 mod reservation;
 mod reservations;
 mod subnet;
+mod term;
 mod times;
 
 pub use config::Config;
@@ -34,4 +35,5 @@ pub use range::Range;
 pub use reservation::{Identity, IdentityKind, Reservation};
 pub use reservations::Reservations;
 pub use subnet::Subnet;
+pub use term::{Term, Timer, seconds_of};
 pub use times::Times;

@@ -50,6 +50,7 @@ fn joined(alloc: Global, subnets: &[Subnet], number: u32) -> Result<Subnet, Allo
         network: number,
         shared: OptionList::own(Vec::new(alloc)),
         boot: Boot::none(),
+        term: None,
     })
 }
 

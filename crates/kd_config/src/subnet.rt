@@ -1,6 +1,7 @@
 use crate::pool::Pool;
 use crate::prefix::Prefix;
 use crate::reservations::Reservations;
+use crate::term::Term;
 use kd_classes::{Boot, OptionList};
 use kd_wire::{Bytes, Entries};
 
@@ -27,4 +28,7 @@ pub struct Subnet {
     /// What the subnet gives to the boot fields of the replies, with what its network and the whole
     /// server do.
     pub boot: Boot,
+    /// How long leases in the subnet last, and when their clients renew them, if that can differ from
+    /// the times of the whole server.
+    pub term: Option<Term>,
 }

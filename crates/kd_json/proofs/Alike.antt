@@ -28,7 +28,7 @@ alike_named name [] [] h = refl
 alike_named name [] (b ∷ ys) h = absurd h
 alike_named name (a ∷ xs) [] h = absurd h
 alike_named name (a ∷ xs) (b ∷ ys) h =
-    ap (λ n. named_among name (record { name = n; test = a.test; options = a.options; boot = a.boot } ∷ xs)) h.0.name
+    ap (λ n. named_among name (record { name = n; test = a.test; options = a.options; boot = a.boot; lifetime = a.lifetime } ∷ xs)) h.0.name
     ∙ or_alike _ (named_among name xs) (named_among name ys) (alike_named name xs ys h.1)
 
 -- the same names are known after them

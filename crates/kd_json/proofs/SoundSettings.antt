@@ -1,12 +1,13 @@
 -- What a text describes obeys what every configuration obeys, object by object.
 use Rattle.std.proofs.Common.{◌≡◌, ℕ, zero, suc, ◌-◌, ◌≤◌, nat_lt, true, not, ◌&&◌, nat_le, ◌==◌, List, [], ◌∷◌, length, codes, Option, Some, None, refl, subst, sym, arith}
 use Rattle.std.specs.List.{AllByRecursion}
-use Rattle.std.specs.Prelude.{option_and_then, option_map}
+use Rattle.std.specs.Prelude.{IfSome, option_and_then, option_map}
 use borrow.Author.Tests.{leb-true, ltb-true}
 use Rattle.kd_classes.specs.Boot.{no_boot}
 use Rattle.kd_classes.specs.HeldSet.{IsAccepted}
 use Rattle.kd_classes.specs.Order.{AreInOrder}
 use Rattle.kd_classes.specs.declared.definition.ClassDef.{ClassDef}
+use Rattle.kd_classes.specs.declared.lifetime.Lifetime.{Lifetime}
 use Rattle.kd_config.proofs.Tests.{some_is, both_passed}
 use Rattle.kd_json.proofs.Came.{came_from, passed, passed_only, few_meant, each_meant}
 use Rattle.kd_json.proofs.Sounds.{bytes_sound, options_sound, prefix_sound, spelled_rise, times_sound}
@@ -21,7 +22,7 @@ use Rattle.kd_json.specs.Pool.{has_pool_keys, pool_addresses, pool_of, pool_rang
 use Rattle.kd_json.specs.Reservation.{has_reservation_keys, identity_given, one_identity, reservation_of}
 use Rattle.kd_config.specs.Rules.{may_stand}
 use Rattle.kd_json.specs.Settings.{has_dhcp4_keys, has_root_keys, whole_settings, server_given, dhcp4_settings, settings_with, times_given}
-use Rattle.kd_config.specs.Sound.{AreOptions, IsBoot, IsClass, IsFrom, IsIdentity, IsPool, IsPrefix, IsRange, IsReservation, IsSound, IsSubnet}
+use Rattle.kd_config.specs.Sound.{AreOptions, IsBoot, IsClass, IsFrom, IsIdentity, IsLifetime, IsPool, IsPrefix, IsRange, IsReservation, IsSound, IsSubnet}
 use Rattle.kd_json.specs.Subnet.{has_subnet_keys, subnet_prefix, subnet_of, subnet_with}
 use Rattle.kd_json.specs.Values.{address_given, hex_bytes_in, bytes_if_given, number_if_given, text_if_given}
 use Rattle.kd_json.specs.declared.objects.class.ClassEntry.{ClassEntry}
@@ -131,6 +132,7 @@ subnet_sound d subnet e =
       options = options_sound (get (codes "option-data") d) options.first options.is;
       shared = no_options;
       boot = no_boot_sound;
+      term = tt;
     })
 
 pub name_sound : (d : Data) (name : List ℕ) → class_name_in d ≡ Some name → IsFrom 1 255 (length name)
@@ -153,6 +155,7 @@ entry_sound d entry e =
       name = name_sound value.first name.first value.gives;
       options = options_sound (get (codes "option-data") d) options.first options.is;
       boot = no_boot_sound;
+      lifetime = tt;
     })
 
 pub some_server : (n : ℕ) → not (n == 0) ≡ true → 1 ≤ n
@@ -208,6 +211,7 @@ classes_sound files (entry ∷ entries) (def ∷ defs) h k accepted = (
     test = accepted.0;
     options = subst AreOptions (sym k.0.options) h.0.options;
     boot = subst IsBoot (sym k.0.boot) h.0.boot;
+    lifetime = subst (λ (lifetime : Option Lifetime). IfSome lifetime IsLifetime) (sym k.0.lifetime) h.0.lifetime;
   },
   classes_sound files entries defs h.1 k.1 accepted.1,
 )

@@ -44,4 +44,4 @@ class_of d = do
   name ← get (codes "name") d >>= class_name_in
   source ← test_source_in d
   options ← option_list_in (get (codes "option-data") d)
-  Some (record { name = name; source = source; options = options; boot = no_boot })
+  Some (record { name = name; source = source; options = options; boot = no_boot; lifetime = None })

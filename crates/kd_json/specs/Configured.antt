@@ -52,14 +52,15 @@ IsTest files (sources.Expression text) (Some program) = IsTextTest text program
 IsTest files (sources.TokenFile name) None = ⊥
 IsTest files (sources.TokenFile name) (Some program) = IsFileTest files name program
 
--- a definition of a class as the text gives it: its name, its options, its boot
--- fields, and a program of its test
+-- a definition of a class as the text gives it: its name, its options, its boot fields, its
+-- lifetime, and a program of its test
 pub record IsDefinition (files : List TokenFile) (entry : ClassEntry)
     (def : ClassDef) : Type 0 where
   pub name : def.name ≡ entry.name
   pub test : IsTest files entry.source def.test
   pub options : def.options ≡ entry.options
   pub boot : def.boot ≡ entry.boot
+  pub lifetime : def.lifetime ≡ entry.lifetime
 
 -- definitions of classes as the text gives them, one for each class in order
 abbrev pub AreDefinitions : List TokenFile → List ClassEntry → List ClassDef → Type 0

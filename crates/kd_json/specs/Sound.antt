@@ -1,8 +1,8 @@
 -- What settings obey, from whatever text they come: each value is in its range, and each list is
 -- within its limit. The rules over the whole are apart.
-use Rattle.std.specs.Prelude.{◌≤◌, length}
+use Rattle.std.specs.Prelude.{◌≤◌, IfSome, length}
 use Rattle.std.specs.List.{AllByRecursion}
-use Rattle.kd_config.specs.Sound.{AreOptions, AreTimes, IsBoot, IsFrom, IsSubnet}
+use Rattle.kd_config.specs.Sound.{AreOptions, AreTimes, IsBoot, IsFrom, IsLifetime, IsSubnet}
 use Rattle.kd_json.specs.declared.objects.class.ClassEntry.{ClassEntry}
 use Rattle.kd_json.specs.declared.objects.settings.Settings.{Settings}
 
@@ -11,6 +11,7 @@ pub record IsEntry (entry : ClassEntry) : Type 0 where
   pub name : IsFrom 1 255 (length entry.name)
   pub options : AreOptions entry.options
   pub boot : IsBoot entry.boot
+  pub lifetime : IfSome entry.lifetime IsLifetime
 
 -- settings
 pub record AreSettings (s : Settings) : Type 0 where

@@ -40,6 +40,7 @@ subnet_with prefix class d = do
     network = 0;
     shared = [];
     boot = no_boot;
+    term = None;
   })
 
 -- the subnet that a value describes; its `id` is checked but not used

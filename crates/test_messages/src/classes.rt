@@ -11,6 +11,7 @@ fn define(alloc: Global, list: &mut Vec<ClassDef>, name: &[u8]) -> Result<(), Al
         test: None,
         options: OptionList::own(Vec::new(alloc)),
         boot: Boot::none(),
+        lifetime: None,
     })?;
     Ok(())
 }

@@ -10,7 +10,7 @@ use crate::objects::lists::EntryReader;
 use crate::objects::options::options_of;
 use crate::objects::values::{check_keys, own_bytes, text_or_none};
 use crate::rules::place::{Place, bad_value};
-use kd_classes::{Boot, OptionList};
+use kd_classes::{Boot, Lifetime, OptionList};
 use kd_wire::Bytes;
 use serde_json::Value;
 use std::alloc::Global;
@@ -37,6 +37,8 @@ pub struct ClassEntry {
     pub options: OptionList,
     /// What it gives to the boot fields of these replies.
     pub boot: Boot,
+    /// How long the leases of its members last, if it says so.
+    pub lifetime: Option<Lifetime>,
 }
 
 // Reads classes.
@@ -66,6 +68,7 @@ impl EntryReader for ClassReader {
             source,
             options,
             boot: Boot::none(),
+            lifetime: None,
         })
     }
 }

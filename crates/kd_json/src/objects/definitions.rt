@@ -76,6 +76,7 @@ fn definition_of(
         source,
         options,
         boot,
+        lifetime,
     } = entry;
     let test = test_of(alloc, number, &source, files)?;
     Ok(ClassDef {
@@ -83,5 +84,6 @@ fn definition_of(
         test,
         options,
         boot,
+        lifetime,
     })
 }

@@ -64,6 +64,7 @@ fn subnet_of_lists(
         network: 0,
         shared: OptionList::own(Vec::new(alloc)),
         boot: Boot::none(),
+        term: None,
     })
 }
 
