@@ -14,6 +14,7 @@ use Rattle.kd_event.specs.declared.reason.Reason.{Reason}
 use Rattle.kd_lease.specs.Choice.{Asking, Rank, address_reserved, client_reservation, contained, fitting_for, free_for, has_rank, has_such, held_row, live_row, past_row, pool_gives, pooled, reserved_anywhere, same_address, usable}
 use Rattle.kd_lease.specs.Choice.Rank.{reserved as reserved_rank, own, past, asked, fresh, expired}
 use Rattle.kd_lease.proofs.Homes.{found_passes}
+use Rattle.kd_lease.proofs.Served.{find-each}
 use Rattle.kd_lease.specs.Kept.{circuit_reservation, if_for_circuit}
 use Rattle.kd_lease.specs.Laws.{EndsAreFounded, IsFounded}
 use Rattle.kd_lease.specs.Plan.{Content, Outcome}
@@ -28,7 +29,7 @@ use Rattle.kd_lease.specs.declared.rule.Ending.TheVariants as ends
 use Rattle.kd_options.specs.declared.kind.MessageType.{MessageType}
 use Rattle.kd_rows.specs.Table.{row_at}
 use Rattle.kd_rows.specs.declared.row.Row.{Row}
-use Rattle.kd_laws.proofs.Homes.{Serves, ServesClient, ServesPool, find-each, serving_serves}
+use Rattle.kd_laws.proofs.Homes.{Serves, ServesClient, ServesPool, serving_serves}
 use Rattle.kd_laws.proofs.Hosts.{client_each}
 
 -- an address of some pool of several has 32 bits

@@ -23,7 +23,8 @@ use Rattle.kd_lease.specs.declared.plan.PlanKind.TheVariants as kinds
 use Rattle.kd_machine.specs.Parts.{is_held}
 use Rattle.kd_options.specs.Laws.{IsField}
 use Rattle.kd_options.specs.Message.{AreBytes, Seen}
-use Rattle.kd_laws.proofs.Homes.{Serves, ServesClient, all_serve, at_part, at_serving, each-append, find-each, flat-each, part_serves, serving_serves}
+use Rattle.kd_laws.proofs.Homes.{Serves, ServesClient, all_serve, part_serves, serving_serves}
+use Rattle.kd_lease.proofs.Served.{at_part, at_serving, each-append, flat-each}
 use Rattle.kd_laws.proofs.Hosts.{counting_each}
 use Rattle.kd_laws.specs.Unbooted.{BootFieldsAreZero, GivesNoBoot, IsUnbooted}
 

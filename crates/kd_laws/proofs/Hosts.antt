@@ -13,7 +13,7 @@ use Rattle.kd_lease.specs.Choice.{client_reservation, is_from, ranked_reservatio
 use Rattle.kd_lease.specs.Client.{client_bytes}
 use Rattle.kd_lease.specs.Kept.{circuit_reservation, if_for_circuit, is_behind_circuit, renews_alone, reservation_at}
 use Rattle.kd_options.specs.Message.{Seen}
-use Rattle.kd_laws.proofs.Homes.{find-each}
+use Rattle.kd_lease.proofs.Served.{find-each}
 
 or_each : (P : Reservation → Type 0) (x y : Option Reservation) → IfSome x P → IfSome y P → IfSome (option_or x y) P
 or_each P None y hx hy = hy

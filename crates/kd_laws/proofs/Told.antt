@@ -30,7 +30,8 @@ use Rattle.kd_options.proofs.ItemOptions.{each_gives}
 use Rattle.kd_options.specs.Joined.{value_of}
 use Rattle.kd_options.specs.Message.{Seen}
 use Rattle.kd_laws.proofs.Ordered.{AreOrdered, is_own, lacks, ordered-append, place, place-free, told, told-none, told-past, wider}
-use Rattle.kd_laws.proofs.Homes.{Serves, ServesClient, ServesPool, all_serve, each-append, find-each, part_serves, serving_serves}
+use Rattle.kd_laws.proofs.Homes.{Serves, ServesClient, ServesPool, all_serve, part_serves, serving_serves}
+use Rattle.kd_lease.proofs.Served.{each-append, find-each}
 use Rattle.kd_laws.proofs.Hosts.{counting_each}
 use Rattle.kd_laws.specs.Replies.{lifetime_told}
 

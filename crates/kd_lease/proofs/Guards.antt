@@ -4,7 +4,7 @@ use Rattle.std.proofs.Common.{◌≡◌, ℕ, ◌<◌, ◌^◌, Bool, true, fals
 use Rattle.std.proofs.lemmas.Bool.{false≢true}
 use Rattle.std.proofs.lemmas.Option.{none-some}
 use Rattle.kd_classes.specs.Boot.{no_boot}
-use Rattle.kd_config.specs.Sound.{AreTimes}
+use Rattle.kd_config.specs.Sound.{IsSound}
 use Rattle.kd_event.specs.declared.reason.Reason.{Reason}
 use Rattle.kd_event.specs.declared.reason.Reason.TheVariants as reasons
 use Rattle.kd_options.specs.declared.kind.MessageType.{MessageType}
@@ -22,11 +22,12 @@ use Rattle.kd_lease.specs.declared.rule.Ending.{Ending}
 use Rattle.kd_lease.specs.declared.rule.Ending.TheVariants as ends
 use Rattle.kd_lease.proofs.Founded.{founded}
 use Rattle.kd_lease.proofs.Held.{no_rank, not_renewed, not_usable}
+use Rattle.kd_lease.proofs.Times.{granted_bounded}
 
--- a row is set now, if the configuration's times are in range
+-- a row is set now, and in range if the configuration is sound
 pub record IsGood (q : Asking) (row : Row) : Type 0 where
   pub changed : row.changed ≡ q.now
-  pub in_range : q.now < 2 ^ 40 → AreTimes q.config.times → IsInRange row
+  pub in_range : q.now < 2 ^ 40 → IsSound q.config → IsInRange row
 
 -- a reply assigns an address
 abbrev pub Gives : Outcome → ℕ → Type 0
@@ -54,16 +55,16 @@ pub record IsGuarded (q : Asking) (set : Option Row) (outcome : Outcome) : Type 
   pub fair : IsFair q outcome
 
 good_offered : (q : Asking) (a : ℕ) → IsGood q (offered_row q a)
-good_offered q a = record { changed = λ i. q.now; in_range = λ early times. let h = times.offer_hold.below in record { set_at = early; earliest = omega arith; last = omega arith } }
+good_offered q a = record { changed = λ i. q.now; in_range = λ early sound. let h = sound.times.offer_hold.below in record { set_at = early; earliest = omega arith; last = omega arith } }
 
 good_leased : (q : Asking) (a : ℕ) → IsGood q (leased_row q a)
-good_leased q a = record { changed = λ i. q.now; in_range = λ early times. let h = times.lifetime.below in record { set_at = early; earliest = omega arith; last = omega arith } }
+good_leased q a = record { changed = λ i. q.now; in_range = λ early sound. let h = granted_bounded q sound a in record { set_at = early; earliest = omega arith; last = omega arith } }
 
 good_released : (q : Asking) (a : ℕ) → IsGood q (released_row q a)
-good_released q a = record { changed = λ i. q.now; in_range = λ early times. record { set_at = early; earliest = omega arith; last = omega arith } }
+good_released q a = record { changed = λ i. q.now; in_range = λ early sound. record { set_at = early; earliest = omega arith; last = omega arith } }
 
 good_declined : (q : Asking) (a : ℕ) → IsGood q (declined_row q a)
-good_declined q a = record { changed = λ i. q.now; in_range = λ early times. let h = times.decline_hold.below in record { set_at = early; earliest = omega arith; last = omega arith } }
+good_declined q a = record { changed = λ i. q.now; in_range = λ early sound. let h = sound.times.decline_hold.below in record { set_at = early; earliest = omega arith; last = omega arith } }
 
 none_set : (q : Asking) (set : Option Row) (outcome : Outcome) → set ≡ None → IsFair q outcome → IsGuarded q set outcome
 none_set q set outcome none fair = record { good = λ row e. absurd (none-some row (sym none ∙ e)); nak = λ e. none; fair = fair }
@@ -157,7 +158,7 @@ pub guarded : (q : Asking) (type : MessageType) (set : Option Row) (outcome : Ou
 guarded q type set outcome h = ends_guarded q type h.address (ending q h.address (rule_of q type)) set outcome (founded q type h.address h.about) h.makes
 
 -- the row that a message sets is set now
-pub set_now : (q : Asking) (set : Option Row) (outcome : Outcome) → Does q set outcome → q.now < 2 ^ 40 → AreTimes q.config.times → IfSome set (IsSetAt q.now)
+pub set_now : (q : Asking) (set : Option Row) (outcome : Outcome) → Does q set outcome → q.now < 2 ^ 40 → IsSound q.config → IfSome set (IsSetAt q.now)
 set_now q None outcome does early times = tt
 set_now q (Some row) outcome does early times =
     let good = (guarded q does.type (Some row) outcome does.sets).good row (λ i. Some row) in

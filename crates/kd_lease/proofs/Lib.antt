@@ -12,7 +12,9 @@ pub mod Places
 pub mod Pools
 pub mod Records
 pub mod Reserved
+pub mod Served
 pub mod Single
 pub mod Strangers
+pub mod Times
 pub mod Valuing
 pub mod Withheld

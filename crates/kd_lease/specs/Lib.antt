@@ -19,5 +19,6 @@ pub mod ReplyOptions
 pub mod Rules
 pub mod Seeking
 pub mod SubnetOf
+pub mod Times
 pub mod Valuing
 pub mod Withholding

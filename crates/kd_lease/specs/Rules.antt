@@ -8,6 +8,7 @@ use Rattle.std.specs.Option.{option_or}
 use Rattle.kd_config.specs.Configuration.{Configuration}
 use Rattle.kd_config.specs.Networks.{covers}
 use Rattle.kd_config.specs.declared.subnet.Subnet.{Subnet}
+use Rattle.kd_config.specs.declared.times.Times.{Times}
 use Rattle.kd_event.specs.declared.reason.Reason.{Reason}
 use Rattle.kd_event.specs.declared.reason.Reason.TheVariants as reasons
 use Rattle.kd_options.specs.Kind.{type_number}
@@ -25,6 +26,7 @@ use Rattle.kd_lease.specs.Kept.{ciaddr_in, is_leased_in, kept_in, passes, circui
 use Rattle.kd_lease.specs.Plan.{Outcome}
 use Rattle.kd_lease.specs.Plan.Outcome.{planned, quiet}
 use Rattle.kd_lease.specs.SubnetOf.{subnet_serving}
+use Rattle.kd_lease.specs.Times.{times_in_subnet}
 use Rattle.kd_lease.specs.declared.plan.PlanKind.{PlanKind}
 use Rattle.kd_lease.specs.declared.plan.PlanKind.TheVariants as kinds
 use Rattle.kd_lease.specs.declared.question.Question.{Question}
@@ -46,6 +48,24 @@ asking question = record {
   now = question.moment;
 }
 
+-- ---- the subnet that serves a message
+
+-- the subnet in which the client keeps the lease that it renews, if it does
+abbrev pub kept_subnet : Asking → Option Subnet
+kept_subnet q = kept_in q.config q.rows q.message q.now q.client
+
+-- the subnet that serves the message: the one in which the client keeps its lease, or else that of
+-- its place and classes
+abbrev pub serving_subnet : Asking → Option Subnet
+serving_subnet q =
+    option_or (kept_subnet q) (subnet_serving q.config q.names q.message)
+
+-- the times of a lease of an address that the message gets
+abbrev pub granted_times : Asking → ℕ → Times
+granted_times q a = times_in_subnet q (serving_subnet q) a
+
+-- ---- rows
+
 -- a row of the client, set at the present time
 abbrev pub row_set_now : Asking → ℕ → State → ℕ → Row
 row_set_now q a state ends =
@@ -57,7 +77,7 @@ offered_row q a = row_set_now q a states.Offered (q.now + q.config.times.offer_h
 
 -- the row of an address that is leased
 abbrev pub leased_row : Asking → ℕ → Row
-leased_row q a = row_set_now q a states.Bound (q.now + q.config.times.lifetime)
+leased_row q a = row_set_now q a states.Bound (q.now + (granted_times q a).lifetime)
 
 -- the row of an address that its client released
 abbrev pub released_row : Asking → ℕ → Row
@@ -121,17 +141,7 @@ other_server server (Some named) = not (named == server)
 abbrev pub renewed_address : Seen → Option ℕ
 renewed_address m = if m.header.ciaddr == 0 then requested_address m else Some m.header.ciaddr
 
--- ---- the subnet that serves a message
-
--- the subnet in which the client keeps the lease that it renews, if it does
-abbrev pub kept_subnet : Asking → Option Subnet
-kept_subnet q = kept_in q.config q.rows q.message q.now q.client
-
--- the subnet that serves the message: the one in which the client keeps its lease, or else that of
--- its place and classes
-abbrev pub serving_subnet : Asking → Option Subnet
-serving_subnet q =
-    option_or (kept_subnet q) (subnet_serving q.config q.names q.message)
+-- ---- what may last
 
 -- a lease of an address that its client keeps may last: a pool contains the address, for whichever
 -- class, and it is not reserved; or it is reserved for a circuit

@@ -3,6 +3,7 @@ ghost use Rattle.kd_lease.specs.Rules.{asking, declined_row, leased_row, row_of_
 
 use crate::question::Question;
 use crate::search::is_leased;
+use crate::times::times_for;
 use kd_rows::{Row, State};
 use kd_wire::Bytes;
 use std::alloc::{AllocError, Global};
@@ -41,7 +42,7 @@ pub(crate) fn make_leased_row(
     requires { question.now.moment < 2 ^ 40 }
     ensures { IfOk result (λ row. row ≡ leased_row (asking question.now) address) }
 {
-    let ends = question.moment + u64::from(question.config.times().lifetime);
+    let ends = question.moment + u64::from(times_for(question, address).lifetime);
     row_of(alloc, question, address, State::Bound, ends)
 }
 

@@ -1,5 +1,5 @@
 ghost use Rattle.std.specs.Prelude.{◌≡◌, ℕ, ◌<◌, ◌^◌, IfOk, IfSome, Err, Ok, Option, Some, option_map};
-ghost use Rattle.kd_config.specs.Sound.{AreTimes};
+ghost use Rattle.kd_config.specs.Sound.{IsSound};
 ghost use Rattle.kd_lease.specs.Decided.{outcome_for};
 ghost use Rattle.kd_lease.specs.Laws.{IsFounded};
 ghost use Rattle.kd_lease.specs.Rules.{Does, IsNewest, IsSetAt, Makes, asking, leased_row, offered_to, released_row, row_of_offer};
@@ -33,13 +33,13 @@ pub fn effect_of(alloc: Global, question: &Question<'_>) -> Result<Verdict<Outli
     ensures set { IfOk result (λ v. IfSome v.row (IsSetAt question.now.moment)) }
 {
     let verdict = effect(alloc, question)?;
-    have_ranges(question.config);
+    be_sound(question.config);
     Ok(verdict)
 }
 
-// States that the times of a configuration are in their ranges; it does nothing else.
-fn have_ranges(config: &Config)
-    ensures { AreTimes config.now.times }
+// States that a configuration is sound; it does nothing else.
+fn be_sound(config: &Config)
+    ensures { IsSound config.now }
 {
     config.times();
 }

@@ -1,12 +1,13 @@
 ghost use Rattle.std.specs.Prelude.{◌≡◌, ◌++◌, IfOk, OnOk, map};
 ghost use Rattle.kd_lease.specs.Plan.{option_of_item};
 ghost use Rattle.kd_lease.specs.ReplyOptions.{configured_for, configured_in, lease_times, reply_options, plan_type, times_in};
-ghost use Rattle.kd_lease.specs.Rules.{asking, serving_subnet};
+ghost use Rattle.kd_lease.specs.Rules.{asking, granted_times, serving_subnet};
 
 use crate::given::put_given;
 use crate::plan::PlanKind;
 use crate::question::Question;
 use crate::reply::{put_obligatory, put_returned};
+use crate::times::times_for;
 use kd_config::Times;
 use kd_options::codes::{
     OPTION_CLIENT_IDENTIFIER, OPTION_LEASE_TIME, OPTION_MESSAGE_TYPE, OPTION_REBINDING_TIME,
@@ -34,7 +35,7 @@ pub(crate) fn reply_items(
     let mut list = Vec::with_capacity(alloc, USUAL)?;
     put_obligatory(alloc, &mut list, OPTION_MESSAGE_TYPE, &[reply_type(kind)])?;
     put_obligatory(alloc, &mut list, OPTION_SERVER_IDENTIFIER, &server)?;
-    put_times(alloc, &mut list, kind, question.config.times())?;
+    put_times(alloc, &mut list, question, kind, yiaddr)?;
     put_returned(
         alloc,
         &mut list,
@@ -67,15 +68,16 @@ fn reply_type(kind: PlanKind) -> u8
 fn put_times(
     alloc: Global,
     list: &mut Vec<Item>,
+    question: &Question<'_>,
     kind: PlanKind,
-    times: Times,
+    yiaddr: u32,
 ) -> Result<(), AllocError>
     ensures { OnOk result (map option_of_item list.new.items ≡ map option_of_item list.old.items
-        ++ times_in kind times) }
+        ++ times_in kind (granted_times (asking question.now) yiaddr)) }
 {
     match kind {
-        PlanKind::Offer => put_lease_times(alloc, list, times),
-        PlanKind::Ack => put_lease_times(alloc, list, times),
+        PlanKind::Offer => put_lease_times(alloc, list, times_for(question, yiaddr)),
+        PlanKind::Ack => put_lease_times(alloc, list, times_for(question, yiaddr)),
         PlanKind::InformAck => Ok(()),
         PlanKind::Nak => Ok(()),
     }

@@ -44,6 +44,7 @@ mod rule;
 mod search;
 mod server;
 mod subnet;
+mod times;
 mod values;
 mod verdict;
 
