@@ -6,6 +6,7 @@ use Rattle.std.proofs.lemmas.Bool.{cases_Bool, eq-eqb, eqb-true, false_from_ne_t
 use Rattle.std.proofs.lemmas.Option.{none-some, same_Some}
 use Rattle.std.specs.Cmp.Lexicographic.{bytes_decides}
 use Rattle.std.specs.List.{slice_get}
+use Rattle.kd_config.specs.declared.times.Times.{Times}
 use Rattle.kd_event.specs.declared.reason.Reason.{Reason}
 use Rattle.kd_lease.specs.Change.{after, asked_for}
 use Rattle.kd_lease.specs.Choice.{Asking, live_row}
@@ -14,8 +15,9 @@ use Rattle.kd_lease.specs.Laws.{EndsAreFounded, HeldHasNoRank, HeldIsNotGiven, H
 use Rattle.kd_lease.specs.Plan.{Content, Outcome}
 use Rattle.kd_lease.specs.Plan.Outcome.{planned, quiet}
 use Rattle.kd_lease.specs.Kept.{bound_state}
-use Rattle.kd_lease.specs.Rules.{Sets, leased_row}
+use Rattle.kd_lease.specs.Rules.{Sets, granted_times, leased_row}
 use Rattle.kd_lease.specs.declared.plan.PlanKind.TheVariants as kinds
+use Rattle.kd_lease.proofs.Single.{OneHeld}
 use Rattle.kd_options.specs.Kind.{type_number}
 use Rattle.kd_options.specs.declared.kind.MessageType.{MessageType}
 use Rattle.kd_options.specs.declared.kind.MessageType.TheVariants as types
@@ -23,9 +25,10 @@ use Rattle.kd_rows.specs.Laws.{GetOfSet, LatestOfSet}
 use Rattle.kd_rows.specs.Table.{belongs_to, latest_of, row_at, with_row}
 use Rattle.kd_rows.specs.declared.row.Row.{Row}
 use Rattle.kd_rows.specs.declared.row.State.TheVariants as states
-use Rattle.kd_laws.specs.NoOverlap.{ChangesTo, GivesTo, GivesUp, GivesUpBetween, Happens, LeaseHistory, GivesLease, GivesOffer, LeaseStep, NoOverlapAcross, Renews, ShortenedBetween, end_of, lifetime_of, now_of}
+use Rattle.kd_laws.specs.NoOverlap.{ChangesTo, GivesTo, GivesUp, GivesUpBetween, Happens, LeaseHistory, GivesLease, GivesOffer, LastsFor, LeaseStep, NoOverlapAcross, Renews, ShortenedBetween, now_of}
 use Rattle.kd_laws.proofs.LiveLeases.{IsGivingUp, IsLease, MayReplace, acked, may_set}
 use Rattle.kd_laws.proofs.Ruled.{Ruled, ruled}
+use Rattle.kd_laws.proofs.Lasting.{granted_once}
 
 -- the row of an address is the client's, bound, and ends no earlier than this
 record Holds (rows : List Row) (a : ℕ) (client : List ℕ) (ends : ℕ) : Type 0 where
@@ -50,7 +53,7 @@ record ShortensBy (q : Asking) (type : MessageType) (row : Row) (client : List �
   its : q.client ≡ client
   request : type ≡ types.Request
   renewed : row ≡ leased_row q a
-  shorter : q.config.times.lifetime < time
+  shorter : (granted_times q a).lifetime < time
 
 -- one of the two
 abbrev LoosensBy : Asking → MessageType → Row → List ℕ → ℕ → ℕ → Type 0
@@ -59,10 +62,11 @@ LoosensBy q type row client a time = GivesUpBy q type row client a ⊎ ShortensB
 -- in a step the client leases an address, which was leased at some time, again for less than a
 -- lifetime; then it is safe for that long
 record Shortens (e : LeaseStep) (client : List ℕ) (a start time : ℕ) : Type 0 where
-  renews : Renews e client a
+  fewer : ℕ
+  renews : Renews e client a fewer
   later : start ≤ now_of e
-  shorter : lifetime_of e < time
-  safe : IsSafe e.after a client (now_of e) (lifetime_of e)
+  shorter : fewer < time
+  safe : IsSafe e.after a client (now_of e) fewer
 
 -- what a step may do to an address that is safe
 abbrev Loosens : LeaseStep → List ℕ → ℕ → ℕ → ℕ → Type 0
@@ -83,10 +87,11 @@ record ShortenedBefore (es : List LeaseStep) (j : ℕ) (client : List ℕ) (a st
   before : place < j
   step : LeaseStep
   there : slice_get es place ≡ Some step
-  renews : Renews step client a
+  fewer : ℕ
+  renews : Renews step client a fewer
   later : start ≤ now_of step
-  shorter : lifetime_of step < time
-  past : end_of step ≤ moment
+  shorter : fewer < time
+  past : now_of step + fewer ≤ moment
 
 -- one of the two
 abbrev LoosenedBefore : List LeaseStep → ℕ → List ℕ → ℕ → ℕ → ℕ → ℕ → Type 0
@@ -102,7 +107,7 @@ next_shortened e es j client a start since time less moment later shorter g =
     let b = g.before in
     let l = g.later in
     let s = g.shorter in
-    record { place = suc g.place; before = omega arith; step = g.step; there = g.there; renews = g.renews; later = omega arith; shorter = omega arith; past = g.past }
+    record { place = suc g.place; before = omega arith; step = g.step; there = g.there; fewer = g.fewer; renews = g.renews; later = omega arith; shorter = omega arith; past = g.past }
 
 next : (e : LeaseStep) (es : List LeaseStep) (j : ℕ) (client : List ℕ) (a start since time less moment : ℕ) → start ≤ since → less ≤ time
     → LoosenedBefore es j client a since less moment → LoosenedBefore (e ∷ es) (suc j) client a start time moment
@@ -110,7 +115,7 @@ next e es j client a start since time less moment later shorter (inl g) = inl (n
 next e es j client a start since time less moment later shorter (inr g) = inr (next_shortened e es j client a start since time less moment later shorter g)
 
 -- given the laws of rows and of the rules
-module _ (get_of_set : GetOfSet) (latest_of_set : LatestOfSet) (sets_now : SetsNow) (founded : EndsAreFounded) (no_rank : HeldHasNoRank) (not_usable : HeldIsNotUsable) (not_given : HeldIsNotGiven) where
+module _ (get_of_set : GetOfSet) (latest_of_set : LatestOfSet) (sets_now : SetsNow) (founded : EndsAreFounded) (no_rank : HeldHasNoRank) (not_usable : HeldIsNotUsable) (not_given : HeldIsNotGiven) (one_held : OneHeld) where
   -- what is read at the address of a row that is set, and elsewhere
   read_here : (row : Row) (rows : List Row) (a : ℕ) → (row.address == a) ≡ true → row_at (with_row row rows) a ≡ Some row
   read_here row rows a e = get_of_set row rows a ∙ ap (λ (b : Bool). if b then Some row else row_at rows a) e
@@ -122,19 +127,19 @@ module _ (get_of_set : GetOfSet) (latest_of_set : LatestOfSet) (sets_now : SetsN
   replaced : (q : Asking) (type : MessageType) (row held : Row) (a : ℕ) (client : List ℕ) (start time : ℕ) → row.address ≡ a → start ≤ q.now
       → row_at q.rows a ≡ Some held → held.client ≡ client → held.state ≡ states.Bound → MayReplace q type row held
       → Holds (with_row row q.rows) a client (start + time) ⊎ LoosensBy q type row client a time
-  replaced q type row held a client start time here since there own bound may = ⊎_elim (λ e. leases e (cases_Bool (nat_lt q.config.times.lifetime time))) gives_up may.how where
+  replaced q type row held a client start time here since there own bound may = ⊎_elim (λ e. leases e (cases_Bool (nat_lt (granted_times q a).lifetime time))) gives_up may.how where
     its : q.client ≡ client
     its = sym ((bytes_decides held.client q.client).0 may.own) ∙ own
 
     read : row_at (with_row row q.rows) a ≡ Some row
     read = read_here row q.rows a (eq-eqb row.address a here)
 
-    leases : (type ≡ types.Request) × (row ≡ leased_row q row.address) → (nat_lt q.config.times.lifetime time ≡ true) ⊎ (nat_lt q.config.times.lifetime time ≡ false)
+    leases : (type ≡ types.Request) × (row ≡ leased_row q row.address) → (nat_lt (granted_times q a).lifetime time ≡ true) ⊎ (nat_lt (granted_times q a).lifetime time ≡ false)
         → Holds (with_row row q.rows) a client (start + time) ⊎ LoosensBy q type row client a time
     leases e (inl less) = inr (inr (record { its = its; request = e.0; renewed = e.1 ∙ ap (leased_row q) here; shorter = ltb-true _ _ less }))
     leases e (inr no_less) =
-        let ends : row.ends ≡ q.now + q.config.times.lifetime = ap (λ (r : Row). r.ends) e.1 in
-        let long : time ≤ q.config.times.lifetime = ltb-false _ _ no_less in
+        let ends : row.ends ≡ q.now + (granted_times q a).lifetime = ap (λ (r : Row). r.ends) (e.1 ∙ ap (leased_row q) here) in
+        let long : time ≤ (granted_times q a).lifetime = ltb-false _ _ no_less in
         inl (record { row = row; there = read; own = ap (λ (r : Row). r.client) e.1 ∙ its; bound = ap (λ (r : Row). r.state) e.1; lasts = omega arith })
 
     gives_up : IsGivingUp type × (bound_state row.state ≡ false) → Holds (with_row row q.rows) a client (start + time) ⊎ LoosensBy q type row client a time
@@ -182,7 +187,7 @@ module _ (get_of_set : GetOfSet) (latest_of_set : LatestOfSet) (sets_now : SetsN
     holds h = at_row h (cases_Bool (row.address == a))
 
   -- the row of a new lease makes its address safe
-  lease_safe : (q : Asking) (a : ℕ) (client : List ℕ) → q.client ≡ client → latest_of q.rows ≤ q.now → IsSafe (with_row (leased_row q a) q.rows) a client q.now q.config.times.lifetime
+  lease_safe : (q : Asking) (a : ℕ) (client : List ℕ) → q.client ≡ client → latest_of q.rows ≤ q.now → IsSafe (with_row (leased_row q a) q.rows) a client q.now (granted_times q a).lifetime
   lease_safe q a client its late =
       let latest : latest_of (with_row (leased_row q a) q.rows) ≡ q.now = latest_of_set (leased_row q a) q.rows (omega arith) in
       record {
@@ -211,15 +216,18 @@ module _ (get_of_set : GetOfSet) (latest_of_set : LatestOfSet) (sets_now : SetsN
         let q = asked_for e.config e.before c.names e.message (now_of e) r.client in
         let leased : e.after ≡ with_row (leased_row q a) e.before = becomes ∙ ap (λ (x : Row). with_row x e.before) g.renewed in
         let read : row_at e.after a ≡ Some (leased_row q a) = ap (λ (rows : List Row). row_at rows a) leased ∙ read_here (leased_row q a) e.before a (eq-eqb a a refl) in
+        let seconds = (granted_times q a).lifetime in
         record {
+          fewer = seconds;
           renews = record {
             by = r.by ∙ ap Some g.its;
+            lasts = record { times = granted_times q a; granted = record { names = c.names; held = c.held; client = r.client; by = r.by; are = refl }; is = refl };
             request = sym r.does.is ∙ ap type_number g.request;
-            row = read ∙ ap (λ (who : List ℕ). Some (record { address = a; client = who; state = states.Bound; changed = now_of e; ends = end_of e })) g.its;
+            row = read ∙ ap (λ (who : List ℕ). Some (record { address = a; client = who; state = states.Bound; changed = now_of e; ends = now_of e + seconds })) g.its;
           };
           later = let l = safe.late in omega arith;
           shorter = g.shorter;
-          safe = subst (λ (rows : List Row). IsSafe rows a client (now_of e) (lifetime_of e)) (sym leased) (lease_safe q a client g.its (omega arith));
+          safe = subst (λ (rows : List Row). IsSafe rows a client (now_of e) seconds) (sym leased) (lease_safe q a client g.its (omega arith));
         }
 
     set_row : (r : Ruled e.config e.before c.names e.message (now_of e) c.set outcome) (row : Row) → c.set ≡ Some row → IsSafe e.after a client start time ⊎ Loosens e client a start time
@@ -245,21 +253,24 @@ module _ (get_of_set : GetOfSet) (latest_of_set : LatestOfSet) (sets_now : SetsN
   kept e None a client start time (inr h) safe = changed_keeps e h.0 a client start time h.1 safe
 
   -- a step that leases an address leaves it safe
-  leased_safe : (e : LeaseStep) (a : ℕ) (client : List ℕ) → Happens e e.outcome → GivesLease e client a → IsSafe e.after a client (now_of e) (lifetime_of e)
-  leased_safe e a client happens l = ⊎_elim silent by_rule (ruled e.config e.before c.names e.message (now_of e) c.set (planned kinds.Ack a l.content) c.decides) where
+  leased_safe : (e : LeaseStep) (a seconds : ℕ) (client : List ℕ) → Happens e e.outcome → GivesLease e client a → LastsFor e a seconds → IsSafe e.after a client (now_of e) seconds
+  leased_safe e a seconds client happens l lasts = ⊎_elim silent by_rule (ruled e.config e.before c.names e.message (now_of e) c.set (planned kinds.Ack a l.content) c.decides) where
     c : ChangesTo e (planned kinds.Ack a l.content)
     c = subst (Happens e) l.ack happens
 
-    silent : (c.set ≡ None) × ((reason : Reason) × (planned kinds.Ack a l.content ≡ quiet reason)) → IsSafe e.after a client (now_of e) (lifetime_of e)
+    silent : (c.set ≡ None) × ((reason : Reason) × (planned kinds.Ack a l.content ≡ quiet reason)) → IsSafe e.after a client (now_of e) seconds
     silent s = let h = s.1.1 in cc
 
-    by_rule : Ruled e.config e.before c.names e.message (now_of e) c.set (planned kinds.Ack a l.content) → IsSafe e.after a client (now_of e) (lifetime_of e)
+    by_rule : Ruled e.config e.before c.names e.message (now_of e) c.set (planned kinds.Ack a l.content) → IsSafe e.after a client (now_of e) seconds
     by_rule r =
         let q = asked_for e.config e.before c.names e.message (now_of e) r.client in
         let is : c.set ≡ Some (leased_row q a) = acked q r.does.type c.set a l.content r.does.sets in
         let becomes : e.after ≡ with_row (leased_row q a) e.before = c.becomes ∙ ap (after e.before) is in
-        subst (λ (rows : List Row). IsSafe rows a client (now_of e) (lifetime_of e)) (sym becomes)
-        (lease_safe q a client (same_Some r.client client (sym r.by ∙ l.by)) (omega arith))
+        let same = granted_once one_held e.config e.before e.message (now_of e) a (granted_times q a) lasts.times
+        (record { names = c.names; held = c.held; client = r.client; by = r.by; are = refl }) lasts.granted in
+        subst (λ (rows : List Row). IsSafe rows a client (now_of e) seconds) (sym becomes)
+        (subst (λ (time : ℕ). IsSafe (with_row (leased_row q a) q.rows) a client q.now time) (ap (λ (times : Times). times.lifetime) same ∙ sym lasts.is)
+        (lease_safe q a client (same_Some r.client client (sym r.by ∙ l.by)) (omega arith)))
 
   -- a reply gives an address of a client to another only when the lifetime has passed
   given_by : (f : LeaseStep) (a : ℕ) (client other : List ℕ) (start time : ℕ) (outcome : Outcome) (content : Content) → (outcome ≡ planned kinds.Offer a content) ⊎ (outcome ≡ planned kinds.Ack a content)
@@ -328,63 +339,64 @@ module _ (get_of_set : GetOfSet) (latest_of_set : LatestOfSet) (sets_now : SetsN
   onward rows (e ∷ es) a client other start time (suc j) f history safe is gives apart =
       ⊎_elim
       (λ s. on (onward e.after es a client other start time j f history.2 s is gives apart))
-      (loosened (λ s. onward e.after es a client other (now_of e) (lifetime_of e) j f history.2 s is gives apart))
+      (loosened (λ fewer s. onward e.after es a client other (now_of e) fewer j f history.2 s is gives apart))
       (kept e e.outcome a client start time history.1 (subst (λ (r : List Row). IsSafe r a client start time) (sym history.0) safe)) where
         on : (start + time ≤ now_of f) ⊎ LoosenedBefore es j client a start time (now_of f) → (start + time ≤ now_of f) ⊎ LoosenedBefore (e ∷ es) (suc j) client a start time (now_of f)
         on (inl past) = inl past
         on (inr l) = inr (next e es j client a start start time time (now_of f) (omega arith) (omega arith) l)
 
-        shortened : (s : Shortens e client a start time) → (end_of e ≤ now_of f) ⊎ LoosenedBefore es j client a (now_of e) (lifetime_of e) (now_of f)
+        shortened : (s : Shortens e client a start time) → (now_of e + s.fewer ≤ now_of f) ⊎ LoosenedBefore es j client a (now_of e) s.fewer (now_of f)
             → (start + time ≤ now_of f) ⊎ LoosenedBefore (e ∷ es) (suc j) client a start time (now_of f)
-        shortened s (inl past) = inr (inr (record { place = zero; before = omega arith; step = e; there = refl; renews = s.renews; later = s.later; shorter = s.shorter; past = past }))
-        shortened s (inr l) = let less = s.shorter in inr (next e es j client a start (now_of e) time (lifetime_of e) (now_of f) s.later (omega arith) l)
+        shortened s (inl past) = inr (inr (record { place = zero; before = omega arith; step = e; there = refl; fewer = s.fewer; renews = s.renews; later = s.later; shorter = s.shorter; past = past }))
+        shortened s (inr l) = let less = s.shorter in inr (next e es j client a start (now_of e) time s.fewer (now_of f) s.later (omega arith) l)
 
-        loosened : (IsSafe e.after a client (now_of e) (lifetime_of e) → (end_of e ≤ now_of f) ⊎ LoosenedBefore es j client a (now_of e) (lifetime_of e) (now_of f))
+        loosened : ((fewer : ℕ) → IsSafe e.after a client (now_of e) fewer → (now_of e + fewer ≤ now_of f) ⊎ LoosenedBefore es j client a (now_of e) fewer (now_of f))
             → Loosens e client a start time → (start + time ≤ now_of f) ⊎ LoosenedBefore (e ∷ es) (suc j) client a start time (now_of f)
         loosened rest (inl g) = inr (inl (record { place = zero; before = omega arith; step = e; there = refl; gives_up = g }))
-        loosened rest (inr s) = shortened s (rest s.safe)
+        loosened rest (inr s) = shortened s (rest s.fewer s.safe)
 
   -- what holds between two positions of a history, from what holds before one
-  abbrev Loosened : List LeaseStep → ℕ → ℕ → LeaseStep → List ℕ → ℕ → ℕ → Type 0
-  Loosened es i j e client a moment = GivesUpBetween es i j client a ⊎ ShortenedBetween es i j e client a moment
+  abbrev Loosened : List LeaseStep → ℕ → ℕ → LeaseStep → List ℕ → ℕ → ℕ → ℕ → Type 0
+  Loosened es i j e client a seconds moment = GivesUpBetween es i j client a ⊎ ShortenedBetween es i j e client a seconds moment
 
   -- from the step of the lease on
-  from_lease : (e : LeaseStep) (es : List LeaseStep) (j : ℕ) (client : List ℕ) (a moment : ℕ) → LoosenedBefore es j client a (now_of e) (lifetime_of e) moment
-      → Loosened (e ∷ es) zero (suc j) e client a moment
-  from_lease e es j client a moment (inl g) =
+  from_lease : (e : LeaseStep) (es : List LeaseStep) (j : ℕ) (client : List ℕ) (a seconds moment : ℕ) → LoosenedBefore es j client a (now_of e) seconds moment
+      → Loosened (e ∷ es) zero (suc j) e client a seconds moment
+  from_lease e es j client a seconds moment (inl g) =
       let b = g.before in
       inl (record { place = suc g.place; after = omega arith; before = omega arith; step = g.step; there = g.there; gives_up = g.gives_up })
-  from_lease e es j client a moment (inr g) =
+  from_lease e es j client a seconds moment (inr g) =
       let b = g.before in
-      inr (record { place = suc g.place; after = omega arith; before = omega arith; step = g.step; there = g.there; renews = g.renews; later = g.later; shorter = g.shorter; past = g.past })
+      inr (record { place = suc g.place; after = omega arith; before = omega arith; step = g.step; there = g.there; fewer = g.fewer; renews = g.renews; later = g.later; shorter = g.shorter; past = g.past })
 
   -- after one more step at the start
-  moved : (x : LeaseStep) (es : List LeaseStep) (i j : ℕ) (e : LeaseStep) (client : List ℕ) (a moment : ℕ) → Loosened es i j e client a moment → Loosened (x ∷ es) (suc i) (suc j) e client a moment
-  moved x es i j e client a moment (inl g) =
+  moved : (x : LeaseStep) (es : List LeaseStep) (i j : ℕ) (e : LeaseStep) (client : List ℕ) (a seconds moment : ℕ) → Loosened es i j e client a seconds moment
+      → Loosened (x ∷ es) (suc i) (suc j) e client a seconds moment
+  moved x es i j e client a seconds moment (inl g) =
       let l = g.after in
       let b = g.before in
       inl (record { place = suc g.place; after = omega arith; before = omega arith; step = g.step; there = g.there; gives_up = g.gives_up })
-  moved x es i j e client a moment (inr g) =
+  moved x es i j e client a seconds moment (inr g) =
       let l = g.after in
       let b = g.before in
-      inr (record { place = suc g.place; after = omega arith; before = omega arith; step = g.step; there = g.there; renews = g.renews; later = g.later; shorter = g.shorter; past = g.past })
+      inr (record { place = suc g.place; after = omega arith; before = omega arith; step = g.step; there = g.there; fewer = g.fewer; renews = g.renews; later = g.later; shorter = g.shorter; past = g.past })
 
   -- in a history from any rows, an address that was leased is given to another only then
-  none_overlap : (rows : List Row) (es : List LeaseStep) (i j : ℕ) (e f : LeaseStep) (client other : List ℕ) (a : ℕ)
-      → LeaseHistory rows es → i < j → slice_get es i ≡ Some e → slice_get es j ≡ Some f → GivesLease e client a → GivesTo f other a → other ≢ client
-      → (end_of e ≤ now_of f) ⊎ Loosened es i j e client a (now_of f)
-  none_overlap rows [] i j e f client other a history before is_e is_f leases gives apart = absurd (none-some e is_e)
-  none_overlap rows (x ∷ es) i zero e f client other a history before is_e is_f leases gives apart = absurd (omega arith)
-  none_overlap rows (x ∷ es) zero (suc j) e f client other a history before is_e is_f leases gives apart =
+  none_overlap : (rows : List Row) (es : List LeaseStep) (i j : ℕ) (e f : LeaseStep) (client other : List ℕ) (a seconds : ℕ)
+      → LeaseHistory rows es → i < j → slice_get es i ≡ Some e → slice_get es j ≡ Some f → GivesLease e client a → LastsFor e a seconds → GivesTo f other a → other ≢ client
+      → (now_of e + seconds ≤ now_of f) ⊎ Loosened es i j e client a seconds (now_of f)
+  none_overlap rows [] i j e f client other a seconds history before is_e is_f leases lasts gives apart = absurd (none-some e is_e)
+  none_overlap rows (x ∷ es) i zero e f client other a seconds history before is_e is_f leases lasts gives apart = absurd (omega arith)
+  none_overlap rows (x ∷ es) zero (suc j) e f client other a seconds history before is_e is_f leases lasts gives apart =
       let same : x ≡ e = same_Some x e is_e in
-      let safe = leased_safe x a client history.1 (subst (λ (g : LeaseStep). GivesLease g client a) (sym same) leases) in
-      subst (λ (g : LeaseStep). (end_of g ≤ now_of f) ⊎ Loosened (x ∷ es) zero (suc j) g client a (now_of f)) same
-      (⊎_elim inl (λ l. inr (from_lease x es j client a (now_of f) l))
-      (onward x.after es a client other (now_of x) (lifetime_of x) j f history.2 safe is_f gives apart))
-  none_overlap rows (x ∷ es) (suc i) (suc j) e f client other a history before is_e is_f leases gives apart =
-      ⊎_elim inl (λ l. inr (moved x es i j e client a (now_of f) l))
-      (none_overlap x.after es i j e f client other a history.2 (omega arith) is_e is_f leases gives apart)
+      let safe = leased_safe x a seconds client history.1 (subst (λ (g : LeaseStep). GivesLease g client a) (sym same) leases) (subst (λ (g : LeaseStep). LastsFor g a seconds) (sym same) lasts) in
+      subst (λ (g : LeaseStep). (now_of g + seconds ≤ now_of f) ⊎ Loosened (x ∷ es) zero (suc j) g client a seconds (now_of f)) same
+      (⊎_elim inl (λ l. inr (from_lease x es j client a seconds (now_of f) l))
+      (onward x.after es a client other (now_of x) seconds j f history.2 safe is_f gives apart))
+  none_overlap rows (x ∷ es) (suc i) (suc j) e f client other a seconds history before is_e is_f leases lasts gives apart =
+      ⊎_elim inl (λ l. inr (moved x es i j e client a seconds (now_of f) l))
+      (none_overlap x.after es i j e f client other a seconds history.2 (omega arith) is_e is_f leases lasts gives apart)
 
   -- the law
   pub across : NoOverlapAcross
-  across rows es history i j e f client a g = none_overlap rows es i j e f client g.other a history g.before g.first g.second g.leases g.gives g.apart
+  across rows es history i j e f client a seconds lasts g = none_overlap rows es i j e f client g.other a seconds history g.before g.first g.second g.leases lasts g.gives g.apart

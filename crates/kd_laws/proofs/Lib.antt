@@ -5,6 +5,7 @@ pub mod CallsMade
 pub mod Homes
 pub mod Hosts
 pub mod Joined
+pub mod Lasting
 pub mod LeasesKept
 pub mod LiveLeases
 pub mod LogLines

@@ -17,7 +17,7 @@ use Rattle.kd_lease.specs.Plan.{Content, Outcome, option_of_item}
 use Rattle.kd_lease.specs.Plan.Outcome.{planned, quiet}
 use Rattle.kd_lease.specs.ReplyOf.{ciaddr_of_reply, flags_of_reply, header_of_reply, needed, within_room}
 use Rattle.kd_lease.specs.ReplyOptions.{plan_type, reply_content, reply_options}
-use Rattle.kd_lease.specs.Rules.{Does}
+use Rattle.kd_lease.specs.Rules.{Does, granted_times}
 use Rattle.kd_lease.specs.declared.booting.BootFields.{BootFields}
 use Rattle.kd_lease.specs.declared.plan.PlanKind.{PlanKind}
 use Rattle.kd_lease.specs.declared.plan.PlanKind.TheVariants as kinds
@@ -35,6 +35,7 @@ use Rattle.kd_laws.proofs.Booted.{AreFields, fields_sized}
 use Rattle.kd_laws.proofs.Ordered.{AreOrdered, IsSure, codes_of, is_own, ordered-distinct, ordered-sure, told}
 use Rattle.kd_laws.proofs.Rereads.{IsObligatory, kept_value, rereads}
 use Rattle.kd_laws.proofs.Told.{reply_ordered, told_client, told_lifetime, told_no_overload, told_no_requested, told_server, told_type}
+use Rattle.kd_laws.specs.Granted.{AreGranted}
 use Rattle.kd_laws.specs.Replies.{ReadsAsReply, RepliesReadBack}
 
 -- the flags of a reply have 16 bits, and its `ciaddr` has 32
@@ -128,9 +129,9 @@ module _ (kind : PlanKind) (yiaddr : ℕ) (content : Content) where
   past_test false reason Done set h = h
 
   -- and only to a client with an identity
-  past_client : (client : Option (List ℕ)) (Done : List ℕ → Option Row → Outcome → Type 0) (set : Option Row) → ForClient client Done set reply → (c : List ℕ) × Done c set reply
+  past_client : (client : Option (List ℕ)) (Done : List ℕ → Option Row → Outcome → Type 0) (set : Option Row) → ForClient client Done set reply → (c : List ℕ) × (client ≡ Some c) × Done c set reply
   past_client None Done set h = not_quiet _ h.1
-  past_client (Some c) Done set h = (c, h)
+  past_client (Some c) Done set h = (c, refl, h)
 
   -- and only if its mandatory options fit
   fitting : (q : Asking) (set : Option Row) → AnswersTo q set reply → IsAnswer q kind yiaddr content
@@ -146,14 +147,14 @@ module _ (kind : PlanKind) (yiaddr : ℕ) (content : Content) where
 
 -- a message that changes the leases and gets a reply was answered
 answered : (config : Configuration) (old new : List Row) (m : Seen) (now : ℕ) (kind : PlanKind) (yiaddr : ℕ) (content : Content)
-    (h : Changes config old m now new (planned kind yiaddr content)) → (client : List ℕ) × IsAnswer (asked_for config old h.names m now client) kind yiaddr content
+    (h : Changes config old m now new (planned kind yiaddr content)) → (client : List ℕ) × (identity_under config m ≡ Some client) × IsAnswer (asked_for config old h.names m now client) kind yiaddr content
 answered config old new m now kind yiaddr content h =
     let Answers : List ℕ → Option Row → Outcome → Type 0 = λ client. AnswersTo (asked_for config old h.names m now client) in
     let Drops : List ℕ → Option Row → Outcome → Type 0 = λ client. Unless (is_held (codes "DROP") h.names) reasons.DropClass (Answers client) in
     let requests = past_test kind yiaddr content (server_message m) reasons.NotRequest (ForClient (identity_under config m) Drops) h.set h.decides in
     let client = past_client kind yiaddr content (identity_under config m) Drops h.set requests in
-    let answers = past_test kind yiaddr content (is_held (codes "DROP") h.names) reasons.DropClass (Answers client.0) h.set client.1 in
-    (client.0, fitting kind yiaddr content (asked_for config old h.names m now client.0) h.set answers)
+    let answers = past_test kind yiaddr content (is_held (codes "DROP") h.names) reasons.DropClass (Answers client.0) h.set client.2 in
+    (client.0, client.1, fitting kind yiaddr content (asked_for config old h.names m now client.0) h.set answers)
 
 -- the type of a reply is a message type
 type_is : (kind : PlanKind) → IsType (plan_type kind ∷ [])
@@ -163,7 +164,7 @@ type_is kinds.InformAck = (omega arith, omega arith)
 type_is kinds.Nak = (omega arith, omega arith)
 
 module _ (founded : EndsAreFounded) (q : Asking) (sound : IsSound q.config) (fields : IsHeader q.message.header) (kind : PlanKind) (yiaddr : ℕ) (content : Content)
-    (is : IsAnswer q kind yiaddr content) (items : List Item) (are : map option_of_item items ≡ content.options) where
+    (is : IsAnswer q kind yiaddr content) (items : List Item) (are : map option_of_item items ≡ content.options) (granted : AreGranted q.config q.rows q.message q.now yiaddr (granted_times q yiaddr)) where
   abbrev room : ℕ
   room = reply_room q.message
 
@@ -218,13 +219,15 @@ module _ (founded : EndsAreFounded) (q : Asking) (sound : IsSound q.config) (fie
   })
 
   -- the text of an answer reads as the reply that was decided
-  answer_reads : (text : List ℕ) → text ≡ reply_text header room items → ReadsAsReply q.config q.message kind yiaddr content.fields text
+  answer_reads : (text : List ℕ) → text ≡ reply_text header room items → ReadsAsReply q.config q.rows q.message q.now kind yiaddr content.fields text
   answer_reads text text_is = record {
     reply = read_back header room items;
     reads = subst (λ (bytes : List ℕ). Reads bytes (read_back header room items)) (sym text_is) reads;
     header = refl;
     type = ap first_byte (said 53 refl ∙ told_type q sound kind yiaddr);
     client = same_client q.config kind yiaddr content.fields q.message (read_back header room items) refl (said 61 refl ∙ told_client q sound kind yiaddr);
+    times = granted_times q yiaddr;
+    granted = granted;
     lifetime = said 51 refl ∙ told_lifetime q sound kind yiaddr;
   }
 
@@ -232,4 +235,5 @@ module _ (founded : EndsAreFounded) (q : Asking) (sound : IsSound q.config) (fie
 pub replies_read : EndsAreFounded → MessagesHaveSizes → RepliesReadBack
 replies_read founded sizes config old new m now kind yiaddr content text sound message changes is =
     let answer = answered config old new m now kind yiaddr content changes in
-    answer_reads founded (asked_for config old changes.names m now answer.0) sound (sizes m message).fields kind yiaddr content answer.1 is.0 is.1 text is.2
+    let granted = record { names = changes.names; held = changes.held; client = answer.0; by = answer.1; are = refl } in
+    answer_reads founded (asked_for config old changes.names m now answer.0) sound (sizes m message).fields kind yiaddr content answer.2 is.0 is.1 granted text is.2

@@ -7,19 +7,22 @@ use Rattle.std.specs.List.{slice_get}
 use Rattle.byteorder.specs.Endian.{big_bytes}
 use Rattle.kd_config.specs.Configuration.{Configuration}
 use Rattle.kd_config.specs.Sound.{IsSound}
+use Rattle.kd_config.specs.declared.times.Times.{Times}
 use Rattle.kd_event.specs.declared.destination.Destination.{Destination}
 use Rattle.kd_event.specs.declared.event.Response.{Response}
 use Rattle.kd_event.specs.declared.event.Response.TheVariants as responses
 use Rattle.kd_event.specs.declared.ports.Ports.{Ports}
 use Rattle.kd_event.specs.declared.reason.Reason.TheVariants as reasons
 use Rattle.kd_laws.specs.Lives.{AreSteps, AreStepsOfAll, IsAnswerOf, IsIdle, IsStepOf, Life, LivesAreHistories, Opening, Report, WasHistory, first_rows, reports}
-use Rattle.kd_laws.specs.NoOverlap.{GivesLease, GivesOffer, GivesTo, GivesUpBetween, Happens, LeaseHistory, LeaseStep, NoOverlapAcross, Regives, ShortenedBetween, lifetime_of, now_of}
+use Rattle.kd_laws.specs.NoOverlap.{GivesLease, GivesOffer, GivesTo, GivesUpBetween, Happens, LastsFor, LeaseHistory, LeaseStep, NoOverlapAcross, Regives, ShortenedBetween, now_of}
+use Rattle.kd_laws.specs.Granted.{AreGranted}
 use Rattle.kd_laws.specs.Replies.{RepliesReadBack, lifetime_told}
 use Rattle.kd_laws.specs.Sent.{Exchange, IsAmong, IsAnsweredBy, IsGivenUp, IsShortened, IsSomeStep, NeverOverlapBy, NoReplyOverlaps, exchanges_of_all, exchanges_under}
 use Rattle.kd_laws.proofs.LiveLeases.{requested_if}
 use Rattle.kd_laws.proofs.OneStep.{one_message}
 use Rattle.kd_laws.proofs.Ruled.{IsSilent, Ruled, ruled}
-use Rattle.kd_lease.specs.Change.{Changes}
+use Rattle.kd_lease.proofs.Lifetimes.{granted_bounded}
+use Rattle.kd_lease.specs.Change.{Changes, asked_for}
 use Rattle.kd_lease.specs.Client.{identity_under, kind_of}
 use Rattle.kd_lease.specs.Laws.{EndsAreFounded}
 use Rattle.kd_lease.specs.Plan.{Content, Outcome}
@@ -209,9 +212,11 @@ record Decided (e : LeaseStep) (type : MessageType) (client : List ℕ) (a secon
   changes : Changes e.config e.before e.message (now_of e) e.after (planned kind a content)
   by : identity_under e.config e.message ≡ Some client
   type_is : plan_type kind ≡ type_number type
-  told : lifetime_told kind e.config.times ≡ Some (big_bytes 4 seconds)
+  times : Times
+  granted : AreGranted e.config e.before e.message (now_of e) a times
+  told : lifetime_told kind times ≡ Some (big_bytes 4 seconds)
   range : seconds < 2 ^ 32
-  lifetime : lifetime_of e < 2 ^ 32
+  lifetime : times.lifetime < 2 ^ 32
   time : now ≡ now_of e
 
 -- the address of a reply is in its header
@@ -232,8 +237,10 @@ module _ (founded : EndsAreFounded) (read_back : RepliesReadBack) where
     sound : IsSound e.config
     sound = subst IsSound (sym is.is.config_is) is.sound
 
-    small : lifetime_of e < 2 ^ 32
-    small = let most = sound.times.lifetime.below in omega (arith, most)
+    small : (y : ℕ) (times : Times) → AreGranted e.config e.before e.message (now_of e) y times → times.lifetime < 2 ^ 32
+    small y times g =
+        let most = granted_bounded (asked_for e.config e.before g.names e.message (now_of e) g.client) sound y in
+        omega (arith, most, ap (λ (t : Times). t.lifetime) g.are)
 
     by : (got : Outcome) → e.outcome ≡ Some got → Responds is.ports e.message got response → Decided e type client a seconds now
     by (quiet reason) outcome responds = absurd (let same : response ≡ responses.Quiet reason = responds in cc)
@@ -252,9 +259,11 @@ module _ (founded : EndsAreFounded) (read_back : RepliesReadBack) where
           by = sym back.client ∙ ap (identity_under e.config) same
               ∙ ap (λ (config : Configuration). identity_under config given.gives.message) is.is.config_is ∙ given.gives.for_client;
           type_is = sym back.type ∙ ap kind_of same ∙ given.gives.type_is;
+          times = back.times;
+          granted = subst (λ (y : ℕ). AreGranted e.config e.before e.message (now_of e) y back.times) address back.granted;
           told = sym back.lifetime ∙ ap (λ m. value_of 51 m.options) same ∙ given.gives.time;
           range = given.gives.range;
-          lifetime = small;
+          lifetime = small yiaddr back.times back.granted;
           time = answered.0;
         }
 
@@ -268,14 +277,14 @@ module _ (founded : EndsAreFounded) (read_back : RepliesReadBack) where
     by : Ruled e.config e.before c.names e.message (now_of e) c.set (planned kinds.Ack a content) → kind_of e.message ≡ type_number types.Request
     by r = sym r.does.is ∙ ap type_number (requested_if founded _ r.does.type c.set a content r.does.sets)
 
-  acks : (e : LeaseStep) (client : List ℕ) (a seconds now : ℕ) (kind : PlanKind) (content : Content) → plan_type kind ≡ 5 → lifetime_told kind e.config.times ≡ Some (big_bytes 4 seconds)
+  acks : (e : LeaseStep) (client : List ℕ) (a seconds now : ℕ) (kind : PlanKind) (content : Content) (times : Times) → plan_type kind ≡ 5 → lifetime_told kind times ≡ Some (big_bytes 4 seconds)
       → e.outcome ≡ Some (planned kind a content) → Changes e.config e.before e.message (now_of e) e.after (planned kind a content) → identity_under e.config e.message ≡ Some client
-      → GivesLease e client a × (big_bytes 4 (lifetime_of e) ≡ big_bytes 4 seconds)
-  acks e client a seconds now kinds.Offer content type told outcome changes by = absurd (omega (arith, type))
-  acks e client a seconds now kinds.Ack content type told outcome changes by =
-      (record { by = by; request = is_request e client a content changes; content = content; ack = outcome }, same_Some (big_bytes 4 (lifetime_of e)) (big_bytes 4 seconds) told)
-  acks e client a seconds now kinds.InformAck content type told outcome changes by = absurd (none-some (big_bytes 4 seconds) told)
-  acks e client a seconds now kinds.Nak content type told outcome changes by = absurd (omega (arith, type))
+      → GivesLease e client a × (big_bytes 4 times.lifetime ≡ big_bytes 4 seconds)
+  acks e client a seconds now kinds.Offer content times type told outcome changes by = absurd (omega (arith, type))
+  acks e client a seconds now kinds.Ack content times type told outcome changes by =
+      (record { by = by; request = is_request e client a content changes; content = content; ack = outcome }, same_Some (big_bytes 4 times.lifetime) (big_bytes 4 seconds) told)
+  acks e client a seconds now kinds.InformAck content times type told outcome changes by = absurd (none-some (big_bytes 4 seconds) told)
+  acks e client a seconds now kinds.Nak content times type told outcome changes by = absurd (omega (arith, type))
 
   offers : (e : LeaseStep) (client : List ℕ) (a : ℕ) (kind : PlanKind) (content : Content) → plan_type kind ≡ 2
       → e.outcome ≡ Some (planned kind a content) → identity_under e.config e.message ≡ Some client → GivesOffer e client a
@@ -284,24 +293,24 @@ module _ (founded : EndsAreFounded) (read_back : RepliesReadBack) where
   offers e client a kinds.InformAck content type outcome by = absurd (omega (arith, type))
   offers e client a kinds.Nak content type outcome by = absurd (omega (arith, type))
 
-  leased : (e : LeaseStep) (client : List ℕ) (a seconds now : ℕ) → Decided e types.Ack client a seconds now → GivesLease e client a × (lifetime_of e ≡ seconds)
+  leased : (e : LeaseStep) (client : List ℕ) (a seconds now : ℕ) → Decided e types.Ack client a seconds now → GivesLease e client a × LastsFor e a seconds
   leased e client a seconds now d =
-      let l = acks e client a seconds now d.kind d.content d.type_is d.told d.outcome d.changes d.by in
-      (l.0, same_four (lifetime_of e) seconds d.lifetime d.range l.1)
+      let l = acks e client a seconds now d.kind d.content d.times d.type_is d.told d.outcome d.changes d.by in
+      (l.0, record { times = d.times; granted = d.granted; is = sym (same_four d.times.lifetime seconds d.lifetime d.range l.1) })
 
   given_to : (e : LeaseStep) (type : MessageType) (client : List ℕ) (a seconds now : ℕ) → (type ≡ types.Offer) ⊎ (type ≡ types.Ack) → Decided e type client a seconds now → GivesTo e client a
   given_to e type client a seconds now offers_or_acks d = ⊎_elim
       (λ offer. inl (offers e client a d.kind d.content (d.type_is ∙ ap type_number offer) d.outcome d.by))
-      (λ ack. inr (acks e client a seconds now d.kind d.content (d.type_is ∙ ap type_number ack) d.told d.outcome d.changes d.by).0)
+      (λ ack. inr (acks e client a seconds now d.kind d.content d.times (d.type_is ∙ ap type_number ack) d.told d.outcome d.changes d.by).0)
       offers_or_acks
 
   module _ (across : NoOverlapAcross) (life : List Opening) (is : Life life) (all : List LeaseStep) (whole : LeaseHistory (first_rows life) all) (are : AreStepsOfAll life all) where
     -- no two replies overlap, by the steps of a history
     apart : NeverOverlapBy life all
     apart client a seconds now later between twice = ⊎_elim
-        (λ late. inl (omega (arith, late, one.1, p.time, q.time)))
+        (λ late. inl (omega (arith, late, p.time, q.time)))
         (λ loosened. inr (⊎_elim (λ up. inl (given_up up)) (λ short. inr (shortened short)) loosened))
-        (across (first_rows life) es history i j e f client a regives) where
+        (across (first_rows life) es history i j e f client a seconds one.1 regives) where
           steps : Follow (exchanges_of_all life) all
           steps = life_steps life is all are
 
@@ -342,7 +351,7 @@ module _ (founded : EndsAreFounded) (read_back : RepliesReadBack) where
           q = decided twice.second f twice.type twice.other a twice.time later late_part.at
               (happens_at (first_rows life) (early.first ++ e ∷ late_part.first) f late_part.rest (subst (LeaseHistory (first_rows life)) (sym regrouped) history)) twice.gives
 
-          one : GivesLease e client a × (lifetime_of e ≡ seconds)
+          one : GivesLease e client a × LastsFor e a seconds
           one = leased e client a seconds now p
 
           i : ℕ
@@ -377,7 +386,7 @@ module _ (founded : EndsAreFounded) (read_back : RepliesReadBack) where
               let it = event_of g.place g.step g.after g.before g.there in
               record { front = it.front; exchange = it.exchange; back = it.back; all = it.all; is = record { step = g.step; is = a_step it.exchange g.place g.step g.there it.is; gives_up = g.gives_up } }
 
-          shortened : ShortenedBetween es i j e client a (now_of f) → IsAmong (IsShortened all client a seconds later) between
+          shortened : ShortenedBetween es i j e client a seconds (now_of f) → IsAmong (IsShortened all client a seconds later) between
           shortened s =
               let it = event_of s.place s.step s.after s.before s.there in
               record {
@@ -388,8 +397,9 @@ module _ (founded : EndsAreFounded) (read_back : RepliesReadBack) where
                 is = record {
                   step = s.step;
                   is = a_step it.exchange s.place s.step s.there it.is;
+                  fewer = s.fewer;
                   renews = s.renews;
-                  shorter = let short = s.shorter in omega (arith, short, one.1);
+                  shorter = s.shorter;
                   past = let past = s.past in omega (arith, past, q.time);
                 };
               }

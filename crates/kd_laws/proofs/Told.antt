@@ -22,7 +22,7 @@ use Rattle.kd_lease.specs.Given.{always_has, class_options, configured, configur
 use Rattle.kd_lease.specs.Plan.{ReplyOption}
 use Rattle.kd_lease.specs.ReplyOf.{obligatory, returned}
 use Rattle.kd_lease.specs.ReplyOptions.{configured_for, configured_in, plan_type, reply_options, times_in}
-use Rattle.kd_lease.specs.Rules.{serving_subnet}
+use Rattle.kd_lease.specs.Rules.{granted_times, serving_subnet}
 use Rattle.kd_lease.specs.declared.plan.PlanKind.{PlanKind}
 use Rattle.kd_lease.specs.declared.plan.PlanKind.TheVariants as kinds
 use Rattle.kd_machine.specs.Parts.{is_held}
@@ -179,18 +179,18 @@ module _ (q : Asking) (sound : IsSound q.config) where
         ordered-append 5 6 262 (returned 61 client) behind_client (returned_ordered 5 6 61 client (omega arith) (omega arith)) behind_ordered
 
     -- the options of a reply in parts
-    parts : reply_options q kind yiaddr ≡ obligatory 53 (plan_type kind ∷ []) ++ (obligatory 54 (big_bytes 4 q.config.server) ++ (times_in kind q.config.times ++ from_client))
+    parts : reply_options q kind yiaddr ≡ obligatory 53 (plan_type kind ∷ []) ++ (obligatory 54 (big_bytes 4 q.config.server) ++ (times_in kind (granted_times q yiaddr) ++ from_client))
     unfolding reply_options
     parts =
-        from_front (obligatory 53 (plan_type kind ∷ [])) (obligatory 54 (big_bytes 4 q.config.server)) (times_in kind q.config.times)
+        from_front (obligatory 53 (plan_type kind ∷ [])) (obligatory 54 (big_bytes 4 q.config.server)) (times_in kind (granted_times q yiaddr))
         (returned 61 (value_of 61 q.message.options)) (configured_for q kind yiaddr) (returned 82 (value_of 82 q.message.options))
 
     -- the options of a reply are in order
     pub reply_ordered : AreOrdered 0 262 (reply_options q kind yiaddr)
     unfolding place
     reply_ordered =
-        let times = times_in kind q.config.times in
-        let rest = ordered-append 2 5 262 times from_client (times_ordered kind q.config.times) client_ordered in
+        let times = times_in kind (granted_times q yiaddr) in
+        let rest = ordered-append 2 5 262 times from_client (times_ordered kind (granted_times q yiaddr)) client_ordered in
         rw parts (omega arith, (λ own. refl), (omega arith, (λ own. refl), rest))
 
     -- what the options say of the type and the server
@@ -201,10 +201,10 @@ module _ (q : Asking) (sound : IsSound q.config) where
     told_server = ap (told 54) parts
 
     -- what they say of the lifetime
-    pub told_lifetime : told 51 (reply_options q kind yiaddr) ≡ lifetime_told kind q.config.times
+    pub told_lifetime : told 51 (reply_options q kind yiaddr) ≡ lifetime_told kind (granted_times q yiaddr)
     unfolding place
     told_lifetime = ap (told 51) parts ∙ by kind from_client client_ordered where
-      by : (k : PlanKind) (rest : List ReplyOption) → AreOrdered 5 262 rest → told 51 (times_in k q.config.times ++ rest) ≡ lifetime_told k q.config.times
+      by : (k : PlanKind) (rest : List ReplyOption) → AreOrdered 5 262 rest → told 51 (times_in k (granted_times q yiaddr) ++ rest) ≡ lifetime_told k (granted_times q yiaddr)
       by kinds.Offer rest is = refl
       by kinds.Ack rest is = refl
       by kinds.InformAck rest is = told-none 51 rest (lacks 51 5 262 rest (inl (omega arith)) is)
@@ -214,8 +214,8 @@ module _ (q : Asking) (sound : IsSound q.config) where
     pub told_client : told 61 (reply_options q kind yiaddr) ≡ value_of 61 q.message.options
     unfolding place
     told_client =
-        let times = times_in kind q.config.times in
-        let before = lacks 61 2 5 times (inr (omega arith)) (times_ordered kind q.config.times) in
+        let times = times_in kind (granted_times q yiaddr) in
+        let before = lacks 61 2 5 times (inr (omega arith)) (times_ordered kind (granted_times q yiaddr)) in
         ap (told 61) parts ∙ told-past 61 times from_client before ∙ by (value_of 61 q.message.options) behind_client behind_ordered
       where
         by : (value : Option (List ℕ)) (rest : List ReplyOption) → AreOrdered 6 262 rest → told 61 (returned 61 value ++ rest) ≡ value

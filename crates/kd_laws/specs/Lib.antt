@@ -1,5 +1,6 @@
 pub mod AcrossRuns
 pub mod Calls
+pub mod Granted
 pub mod Lives
 pub mod NoOverlap
 pub mod OneStep

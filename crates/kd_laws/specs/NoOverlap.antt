@@ -3,6 +3,7 @@
 use Rattle.std.specs.Prelude.{◌≡◌, ◌≢◌, ℕ, ◌+◌, ◌<◌, ◌≤◌, max, ◌⊎◌, List, [], ◌∷◌, Option, Some, None}
 use Rattle.std.specs.List.{slice_get}
 use Rattle.kd_config.specs.Configuration.{Configuration}
+use Rattle.kd_config.specs.declared.times.Times.{Times}
 use Rattle.kd_lease.specs.Change.{Changes}
 use Rattle.kd_lease.specs.Client.{identity_under, kind_of}
 use Rattle.kd_lease.specs.Plan.{Content, Outcome}
@@ -11,6 +12,7 @@ use Rattle.kd_lease.specs.declared.plan.PlanKind.TheVariants as kinds
 use Rattle.kd_options.specs.Kind.{type_number}
 use Rattle.kd_options.specs.Message.{Seen}
 use Rattle.kd_options.specs.declared.kind.MessageType.TheVariants as types
+use Rattle.kd_laws.specs.Granted.{AreGranted, HasLeast, HasOneLifetime}
 use Rattle.kd_rows.specs.Table.{latest_of, row_at}
 use Rattle.kd_rows.specs.declared.row.Row.{Row}
 use Rattle.kd_rows.specs.declared.row.State.TheVariants as states
@@ -29,13 +31,11 @@ pub record LeaseStep : Type 0 where
 abbrev pub now_of : LeaseStep → ℕ
 now_of e = max e.moment (latest_of e.before)
 
--- the lifetime of the leases that a step gives
-abbrev pub lifetime_of : LeaseStep → ℕ
-lifetime_of e = e.config.times.lifetime
-
--- the end of such a lease, as reported to its client
-abbrev pub end_of : LeaseStep → ℕ
-end_of e = now_of e + lifetime_of e
+-- by the rules, a lease of an address that a step gives lasts for this many seconds
+pub record LastsFor (e : LeaseStep) (a seconds : ℕ) : Type 0 where
+  pub times : Times
+  pub granted : AreGranted e.config e.before e.message (now_of e) a times
+  pub is : seconds ≡ times.lifetime
 
 -- by the rules, the message changes the rows in this way and has this outcome
 abbrev pub ChangesTo : LeaseStep → Outcome → Type 0
@@ -93,31 +93,33 @@ pub record GivesUpBetween (es : List LeaseStep) (i j : ℕ) (client : List ℕ) 
   pub gives_up : GivesUp step client a
 
 -- in this step the client requests an address that it leases, and the row of the address is then
--- that of a new lease, whether the step was stopped or not
-pub record Renews (e : LeaseStep) (client : List ℕ) (a : ℕ) : Type 0 where
+-- that of a new lease for some seconds, whether the step was stopped or not
+pub record Renews (e : LeaseStep) (client : List ℕ) (a seconds : ℕ) : Type 0 where
   pub by : identity_under e.config e.message ≡ Some client
+  pub lasts : LastsFor e a seconds
   pub request : kind_of e.message ≡ type_number types.Request
   pub row : row_at e.after a ≡ Some (record {
     address = a;
     client = client;
     state = states.Bound;
     changed = now_of e;
-    ends = end_of e;
+    ends = now_of e + seconds;
   })
 
--- between two positions of a history the client of a lease renews it under a shorter lifetime than
--- that of the lease, and the new lease has ended by this time
+-- between two positions of a history the client of a lease for some seconds renews it for fewer, and
+-- the new lease has ended by this time
 pub record ShortenedBetween (es : List LeaseStep) (i j : ℕ) (e : LeaseStep) (client : List ℕ)
-    (a moment : ℕ) : Type 0 where
+    (a seconds moment : ℕ) : Type 0 where
   pub place : ℕ
   pub after : i < place
   pub before : place < j
   pub step : LeaseStep
   pub there : slice_get es place ≡ Some step
-  pub renews : Renews step client a
+  pub fewer : ℕ
+  pub renews : Renews step client a fewer
   pub later : now_of e ≤ now_of step
-  pub shorter : lifetime_of step < lifetime_of e
-  pub past : end_of step ≤ moment
+  pub shorter : fewer < seconds
+  pub past : now_of step + fewer ≤ moment
 
 -- a step leases an address to a client, and a later step gives it to another client
 pub record Regives (es : List LeaseStep) (i j : ℕ) (e f : LeaseStep) (client : List ℕ)
@@ -130,33 +132,41 @@ pub record Regives (es : List LeaseStep) (i j : ℕ) (e f : LeaseStep) (client :
   pub gives : GivesTo f other a
   pub apart : other ≢ client
 
+-- a lease lasts for some seconds
+abbrev pub LeasesLast : Type 0
+LeasesLast =
+    (e : LeaseStep) (client : List ℕ) (a : ℕ) → Happens e e.outcome → GivesLease e client a
+    → (seconds : ℕ) × LastsFor e a seconds
+
 -- whatever the first table, and whatever the configurations of the steps: if a step leased an
--- address to a client, and a later step gives it to another, then the end that was reported to the
--- client has passed; or between the two the client gave the address up, or renewed its lease under
--- a shorter lifetime, and that lease has ended
+-- address to a client for some seconds, and a later step gives it to another, then these seconds have
+-- passed; or between the two the client gave the address up, or renewed its lease for fewer seconds,
+-- and that lease has ended
 abbrev pub NoOverlapAcross : Type 0
 NoOverlapAcross =
     (rows : List Row) (es : List LeaseStep) → LeaseHistory rows es
-    → (i j : ℕ) (e f : LeaseStep) (client : List ℕ) (a : ℕ) → Regives es i j e f client a
-    → (end_of e ≤ now_of f)
-    ⊎ (GivesUpBetween es i j client a ⊎ ShortenedBetween es i j e client a (now_of f))
+    → (i j : ℕ) (e f : LeaseStep) (client : List ℕ) (a seconds : ℕ) → LastsFor e a seconds
+    → Regives es i j e f client a
+    → (now_of e + seconds ≤ now_of f)
+    ⊎ (GivesUpBetween es i j client a ⊎ ShortenedBetween es i j e client a seconds (now_of f))
 
--- if no step between the two has a shorter lifetime, the end has passed or the address was given up
+-- if the client never renews it for fewer seconds, they have passed or the address was given up
 abbrev pub NoOverlapWhereNoneIsShorter : Type 0
 NoOverlapWhereNoneIsShorter =
     (rows : List Row) (es : List LeaseStep) → LeaseHistory rows es
-    → (i j : ℕ) (e f : LeaseStep) (client : List ℕ) (a : ℕ)
-    → ((k : ℕ) (g : LeaseStep) → i < k → k < j → slice_get es k ≡ Some g
-    → lifetime_of e ≤ lifetime_of g)
-    → Regives es i j e f client a → (end_of e ≤ now_of f) ⊎ GivesUpBetween es i j client a
+    → (i j : ℕ) (e f : LeaseStep) (client : List ℕ) (a seconds : ℕ) → LastsFor e a seconds
+    → ((k : ℕ) (g : LeaseStep) (others : ℕ) → i < k → k < j → slice_get es k ≡ Some g
+    → Renews g client a others → seconds ≤ others)
+    → Regives es i j e f client a
+    → (now_of e + seconds ≤ now_of f) ⊎ GivesUpBetween es i j client a
 
--- in any case the shortest lifetime has passed, or the address was given up
+-- in any case the shortest lifetime that a configuration has has passed, or the address was given up
 abbrev pub NoOverlapForShortest : Type 0
 NoOverlapForShortest =
     (rows : List Row) (es : List LeaseStep) → LeaseHistory rows es
     → (i j : ℕ) (e f : LeaseStep) (client : List ℕ) (a shortest : ℕ)
     → ((k : ℕ) (g : LeaseStep) → i ≤ k → k < j → slice_get es k ≡ Some g
-    → shortest ≤ lifetime_of g)
+    → HasLeast shortest g.config)
     → Regives es i j e f client a
     → (now_of e + shortest ≤ now_of f) ⊎ GivesUpBetween es i j client a
 
@@ -164,10 +174,10 @@ NoOverlapForShortest =
 abbrev pub AreOfOne : Configuration → List LeaseStep → Type 0
 AreOfOne config es = (k : ℕ) (g : LeaseStep) → slice_get es k ≡ Some g → g.config ≡ config
 
--- with one configuration, its lifetime has passed, or the address was given up
+-- with one configuration that has one lifetime, this has passed, or the address was given up
 abbrev pub NoOverlap : Type 0
 NoOverlap =
     (config : Configuration) (rows : List Row) (es : List LeaseStep) → LeaseHistory rows es
-    → AreOfOne config es
+    → AreOfOne config es → HasOneLifetime config
     → (i j : ℕ) (e f : LeaseStep) (client : List ℕ) (a : ℕ) → Regives es i j e f client a
     → (now_of e + config.times.lifetime ≤ now_of f) ⊎ GivesUpBetween es i j client a

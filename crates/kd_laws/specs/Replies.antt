@@ -17,6 +17,7 @@ use Rattle.kd_lease.specs.declared.plan.PlanKind.TheVariants as kinds
 use Rattle.kd_options.specs.Joined.{value_of}
 use Rattle.kd_options.specs.Message.{IsMessage, Reads, Seen}
 use Rattle.kd_rows.specs.declared.row.Row.{Row}
+use Rattle.kd_laws.specs.Granted.{AreGranted}
 
 -- the value of option 51 in a reply: the lifetime, if the reply assigns an address
 abbrev pub lifetime_told : PlanKind → Times → Option (List ℕ)
@@ -26,15 +27,17 @@ lifetime_told kinds.InformAck times = None
 lifetime_told kinds.Nak times = None
 
 -- bytes read as a message with the header of a reply with these boot fields, of this type, for the
--- client of a message, and with this lifetime
-pub record ReadsAsReply (config : Configuration) (m : Seen) (kind : PlanKind) (yiaddr : ℕ)
-    (fields : BootFields) (text : List ℕ) : Type 0 where
+-- client of a message, and with the lifetime that the rules give for its address
+pub record ReadsAsReply (config : Configuration) (rows : List Row) (m : Seen) (now : ℕ)
+    (kind : PlanKind) (yiaddr : ℕ) (fields : BootFields) (text : List ℕ) : Type 0 where
   pub reply : Seen
   pub reads : Reads text reply
   pub header : reply.header ≡ header_of_reply kind yiaddr fields m.header
   pub type : kind_of reply ≡ plan_type kind
   pub client : identity_under config reply ≡ identity_under config m
-  pub lifetime : value_of 51 reply.options ≡ lifetime_told kind config.times
+  pub times : Times
+  pub granted : AreGranted config rows m now yiaddr times
+  pub lifetime : value_of 51 reply.options ≡ lifetime_told kind times
 
 -- whatever a reply's text is by the rules, over a configuration that obeys its limits, it reads as
 -- the reply that was decided
@@ -45,4 +48,4 @@ RepliesReadBack =
     → IsSound config → IsMessage m → Changes config old m now new (planned kind yiaddr content)
     → IsReplyText (header_of_reply kind yiaddr content.fields m.header) (reply_room m)
     content.options text
-    → ReadsAsReply config m kind yiaddr content.fields text
+    → ReadsAsReply config old m now kind yiaddr content.fields text

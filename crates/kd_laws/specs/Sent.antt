@@ -9,7 +9,7 @@ use Rattle.kd_event.specs.declared.destination.Destination.{Destination}
 use Rattle.kd_event.specs.declared.event.Response.TheVariants as responses
 use Rattle.kd_event.specs.declared.ports.Ports.{Ports}
 use Rattle.kd_laws.specs.Lives.{AreStepsOfAll, IsStepOf, Life, Opening, Report, first_rows, reports}
-use Rattle.kd_laws.specs.NoOverlap.{GivesUp, LeaseHistory, LeaseStep, Renews, end_of, lifetime_of}
+use Rattle.kd_laws.specs.NoOverlap.{GivesUp, LeaseHistory, LeaseStep, Renews, now_of}
 use Rattle.kd_lease.specs.Client.{identity_under, kind_of}
 use Rattle.kd_options.specs.Joined.{value_of}
 use Rattle.kd_options.specs.Kind.{type_number}
@@ -95,20 +95,21 @@ pub record IsGivenUp (steps : List LeaseStep) (client : List ℕ) (a : ℕ)
   pub is : IsSomeStep steps x step
   pub gives_up : GivesUp step client a
 
--- the client asked for the address again under a lifetime of fewer seconds, and that lease has ended
--- by this time
+-- the client asked for the address again and got it for fewer seconds, and that lease has ended by
+-- this time
 pub record IsShortened (steps : List LeaseStep) (client : List ℕ) (a seconds moment : ℕ)
     (x : Exchange) : Type 0 where
   pub step : LeaseStep
   pub is : IsSomeStep steps x step
-  pub renews : Renews step client a
-  pub shorter : lifetime_of step < seconds
-  pub past : end_of step ≤ moment
+  pub fewer : ℕ
+  pub renews : Renews step client a fewer
+  pub shorter : fewer < seconds
+  pub past : now_of step + fewer ≤ moment
 
 -- no two replies of openings overlap, by these steps: if an ACK leased an address to a client for
 -- some seconds, and a later OFFER or ACK gives it to another, then these seconds have passed, in the
--- server's time; or in between the client gave the address up, or asked for it again under a shorter
--- lifetime, which has passed
+-- server's time; or in between the client gave the address up, or asked for it again and got it for
+-- fewer seconds, which have passed
 abbrev pub NeverOverlapBy : List Opening → List LeaseStep → Type 0
 NeverOverlapBy life steps =
     (client : List ℕ) (a seconds now later : ℕ) (between : List Exchange)

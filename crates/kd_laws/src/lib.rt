@@ -2,7 +2,8 @@
 //!
 //! Each law is the contract of a function that does nothing but name the laws it rests on. Nothing
 //! here runs, and the program does not depend on this crate. What the laws promise: no address is
-//! given to two clients at once (`overlap`, in the words of `specs/NoOverlap.antt`); a client that
+//! given to two clients at once (`overlap`, in the words of `specs/NoOverlap.antt`), while its lease
+//! lasts (`granted`, `specs/Granted.antt`); a client that
 //! renews its lease without a relay keeps it (`renewals`, `specs/Renewals.antt`); whatever is done
 //! with a server, across stops and new configurations, is such a history (`lives`,
 //! `specs/Lives.antt`), and its calls are those of the traffic (`calls`, `specs/Calls.antt`); a
@@ -12,6 +13,7 @@
 #![tactic(auto)]
 
 pub mod calls;
+pub mod granted;
 pub mod lives;
 pub mod overlap;
 pub mod renewals;

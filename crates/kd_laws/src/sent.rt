@@ -22,7 +22,7 @@ pub fn replies_read_back()
 /// seconds. If a later datagram is answered with an OFFER or an ACK of that address for another
 /// client, then these seconds have passed, in the time by which the server answered; or in between
 /// the first client gave the address up, by a RELEASE or DECLINE that changed its row; or it asked
-/// for the address again under a shorter lifetime, and that has passed. A client is known by what
+/// for the address again and got it for fewer seconds, which have passed. A client is known by what
 /// its replies say: option 61, or else its hardware; or, where a configuration ignores client
 /// identifiers, its hardware, or else option 61.
 pub fn no_reply_overlaps()

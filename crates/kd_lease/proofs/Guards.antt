@@ -22,7 +22,7 @@ use Rattle.kd_lease.specs.declared.rule.Ending.{Ending}
 use Rattle.kd_lease.specs.declared.rule.Ending.TheVariants as ends
 use Rattle.kd_lease.proofs.Founded.{founded}
 use Rattle.kd_lease.proofs.Held.{no_rank, not_renewed, not_usable}
-use Rattle.kd_lease.proofs.Times.{granted_bounded}
+use Rattle.kd_lease.proofs.Lifetimes.{granted_bounded}
 
 -- a row is set now, and in range if the configuration is sound
 pub record IsGood (q : Asking) (row : Row) : Type 0 where

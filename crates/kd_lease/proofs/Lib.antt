@@ -6,6 +6,7 @@ pub mod Guards
 pub mod Held
 pub mod Homes
 pub mod Least
+pub mod Lifetimes
 pub mod Newest
 pub mod Passing
 pub mod Places
@@ -15,6 +16,5 @@ pub mod Reserved
 pub mod Served
 pub mod Single
 pub mod Strangers
-pub mod Times
 pub mod Valuing
 pub mod Withheld

@@ -74,7 +74,7 @@ fn lifetime_by_class(classes: &Classes, names: &Held) -> Option<Lifetime>
 }
 
 // Returns the lifetime that a class gives if its name is held.
-#[tactic(auto, using(crate::proofs::Times::one_lifetime, crate::proofs::Times::no_class_lifetime, crate::proofs::Times::empty_lifetime))]
+#[tactic(auto, using(crate::proofs::Lifetimes::one_lifetime, crate::proofs::Lifetimes::no_class_lifetime, crate::proofs::Lifetimes::empty_lifetime))]
 fn lifetime_of_class(class: &ClassDef, names: &Held) -> Option<Lifetime>
     ensures { result ≡ class_lifetime (class.now ∷ []) names.now }
 {

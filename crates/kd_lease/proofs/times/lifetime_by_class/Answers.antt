@@ -1,7 +1,7 @@
 use Rattle.std.proofs.Common.{ap, sym, ◌∙◌, take, option_copied}
 use Rattle.std.specs.Option.{option_or}
 use Rattle.kd_lease.specs.Times.{class_lifetime}
-use Rattle.kd_lease.proofs.Times.{more_lifetimes}
+use Rattle.kd_lease.proofs.Lifetimes.{more_lifetimes}
 use Rattle.kd_lease.proofs.times.lifetime_by_class.Goals as goal
 
 pub loop-i-preserved : goal.loop-i-preserved
