@@ -30,6 +30,7 @@ pub struct Term {
 
 impl Term {
     /// Returns the times of a lease with this lifetime, with the holds of others.
+    #[tactic(auto, unfolding(crate::specs::Term::times_of_term))]
     pub fn times(self, others: Times, lifetime: u32) -> Times
         ensures { result ≡ times_of_term self others lifetime }
     {
