@@ -223,7 +223,18 @@ def message_options(chance, root, rows, client, kind):
         link = written(5, chance.choice([link, link, link, link[:3], link + b"\0"]))
         pairs = [pair for pair in pairs if pair[0] != 82]
         pairs.append((82, chance.choice([b"", b"\x01\x01x", b"\x01\x01x", b"\x01\x02xy"]) + chance.choice([b"", b"", link])))
+    if judge.is_kea(root) and chance.random() < 0.3:
+        pairs.append((51, some_wish(chance, root)))
     return pairs
+
+
+def some_wish(chance, root):
+    """The value of option 51: mostly a lifetime of the configuration or one beside it, none (0), or a value of another length."""
+    holders = [root, *root["client-classes"], *[each for pair in judge.subnets_of(root) for each in pair]]
+    likely = [holder[key] for holder in holders for key in ("valid-lifetime", "min-valid-lifetime", "max-valid-lifetime") if key in holder]
+    near = chance.choice(likely or [7200]) + chance.choice([-1, 0, 0, 1])
+    value = chance.choice([near, near, near, 0, 1, 50, 2**32 - 1]).to_bytes(4, "big")
+    return chance.choice([value] * 12 + [b"", value[:3], value[1:], value + b"\0"])
 
 
 def spread(chance, pairs):

@@ -7,7 +7,7 @@ For each event it prints the line that `kdhcp replay` must print. With `--leases
 time M. The table is a plain list, and each lookup goes through all of it. The rules are implemented here a second time, from
 RFC 2131, 2132, 3046, 3396, 3527, 6842 and the project's own rules. The program was written separately from the server, in another
 language, and uses none of the server's code. With networks, even if there are none (`shared-networks`), the rules are those of a
-configuration of Kea's, which also gives values to the fields siaddr, sname and file.
+configuration of Kea's, which also gives values to the fields siaddr, sname and file, and lifetimes by class, subnet and network.
 
 It supports the class tests that answers.py supports: strings, hexadecimal, option, relay4, pkt4.mac, substring without
 negative numbers, member, ==, not, and, or. It does not support classes with token files.
@@ -358,6 +358,79 @@ def choice(asked):
     return None
 
 
+# ---- how long a lease lasts, and when its client renews it
+
+
+def places_of(asked, at):
+    """What gives times to a lease of an address, the nearest first: the subnet that has it, its network, the whole server."""
+    home = asked.subnet
+    return [next(part for part in parts_of(home) if "parts" not in home or contains(part, at)), home.get("network", {}), asked.root]
+
+
+def nearest(places, key, otherwise):
+    """The value of a key in the first of these places that has it."""
+    return next((place[key] for place in places if key in place), otherwise)
+
+
+def lifetimes(places):
+    """The least, the usual and the greatest lifetime in these places. Each key is looked for by itself."""
+    usual = nearest(places, "valid-lifetime", 7200)
+    return nearest(places, "min-valid-lifetime", usual), usual, nearest(places, "max-valid-lifetime", usual)
+
+
+def lifetimes_of_class(entry):
+    """The least, the usual and the greatest lifetime that a class gives, or None: of two that it leaves out, each is the third."""
+    least, usual, most = (entry.get(f"{front}valid-lifetime") for front in ("min-", "", "max-"))
+    if usual is None:
+        usual = most if least is None else least
+    return None if usual is None else (usual if least is None else least, usual, usual if most is None else most)
+
+
+def wish(asked):
+    """The lifetime that a client asks for by option 51, or None: four bytes that are not 0."""
+    value = asked.found.get(51, b"")
+    return number(value) or None if len(value) == 4 else None
+
+
+def lifetime_of(asked, at):
+    """How long a lease of an address lasts: as its client asks for, within the bounds of its first class that gives some."""
+    held = [entry for entry in asked.root.get("client-classes", []) if entry["name"].encode() in asked.held]
+    of_classes = [each for each in map(lifetimes_of_class, held) if each is not None]
+    least, usual, most = (of_classes + [lifetimes(places_of(asked, at))])[0]
+    wished = wish(asked)
+    return usual if wished is None else min(most, max(least, wished))
+
+
+def rounded(seconds):
+    """The nearest whole number of seconds, and of two the greater one."""
+    return int(seconds) + (seconds - int(seconds) >= 0.5)
+
+
+def timer(places, lifetime, key, share_key, usual_share):
+    """T1 or T2 as it is given, or else calculated if that is asked for; or 0."""
+    is_calculated = nearest(places, "calculate-tee-times", False)
+    share = rounded(nearest(places, share_key, usual_share) * lifetime) if is_calculated else 0
+    return nearest(places, key, share)
+
+
+def timers_sent(places, lifetime):
+    """T1 and T2 as Kea sends them, each with None in place of a time that it does not send."""
+    rebind = timer(places, lifetime, "rebind-timer", "t2-percent", 0.875)
+    rebind = rebind if 0 < rebind < lifetime else None
+    renew = timer(places, lifetime, "renew-timer", "t1-percent", 0.5)
+    return renew if 0 < renew < (rebind or lifetime) else None, rebind
+
+
+def timers(asked, at, lifetime):
+    """T1 and T2 of a lease."""
+    if not is_kea(asked.root):
+        return asked.root.get("renew-timer", lifetime // 2), asked.root.get("rebind-timer", lifetime * 7 // 8)
+    renew, rebind = timers_sent(places_of(asked, at), lifetime)
+    if renew is None:
+        renew = min(lifetime // 2, rebind or lifetime)
+    return renew, rebind or max(lifetime * 7 // 8, renew)
+
+
 # ---- each type of message: a plan or the reason for no reply, and the row to set or None
 
 
@@ -375,8 +448,7 @@ def discover(asked):
 
 
 def acknowledged(asked, wanted):
-    lifetime = asked.root.get("valid-lifetime", 7200)
-    return Plan("ACK", wanted), changed_row(asked, wanted, asked.client, "Bound", lifetime)
+    return Plan("ACK", wanted), changed_row(asked, wanted, asked.client, "Bound", lifetime_of(asked, wanted))
 
 
 def request(asked):
@@ -460,10 +532,10 @@ def room_of(found):
     return min(1472, max(576, greatest) - 28)
 
 
-def times(root):
+def times(asked, at):
     """Options 51, 58 and 59: the lease time, and when to renew and to rebind."""
-    lifetime = root.get("valid-lifetime", 7200)
-    values = [lifetime, root.get("renew-timer", lifetime // 2), root.get("rebind-timer", lifetime * 7 // 8)]
+    lifetime = lifetime_of(asked, at)
+    values = [lifetime, *timers(asked, at, lifetime)]
     return b"".join(written(code, value.to_bytes(4, "big")) for code, value in zip((51, 58, 59), values))
 
 
@@ -532,7 +604,7 @@ def options_of(asked, plan):
     kind = {"OFFER": b"\x02", "ACK": b"\x05", "INFORMED": b"\x05", "NAK": b"\x06"}[plan.kind]
     front = written(53, kind) + written(54, address(asked.root["server-address"]))
     if plan.kind in ("OFFER", "ACK"):
-        front += times(asked.root)
+        front += times(asked, plan.yiaddr)
     if 61 in found:
         front += written(61, found[61])
     back = written(82, found[82]) if 82 in found else b""

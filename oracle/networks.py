@@ -7,7 +7,9 @@ The configurations are those of histories.py, with most of their subnets in shar
 options, relays and a class of the network or of its subnets, and pools for a class. Clients come through these relays too.
 The whole server, networks, subnets, classes and reservations give values to boot fields, some of them empty. Some relays
 select a link, and some clients renew without the relay that says their class or their circuit. Some servers are authoritative,
-and some ignore client identifiers. Some reservations are by circuit or by DUID, have no address, or have options.
+and some ignore client identifiers. Some reservations are by circuit or by DUID, have no address, or have options. In half of the
+files the whole server, networks, subnets and classes give lifetimes, and all but classes times of renewal or shares for them. Some
+clients ask for a lifetime.
 """
 import json
 
@@ -21,6 +23,10 @@ BOOTS = {
     "server-hostname": ["", "", "a", "boot.example", "b\u00fcro", "h" * 62 + "E"],
     "boot-file-name": ["", "", "a", 'pxe/grub \\ "0".efi', "\u20ac/x", "f" * 126 + "E"],
 }
+SECONDS = [1, 2, 3, 5, 20, 60, 100, 100, 300, 1000, 3601, 2147483647]
+SHARES = [0.001, 0.1, 0.285, 0.2851, 0.5, 0.5, 0.6, 0.875, 0.999]
+LIFETIMES = ["valid-lifetime", "min-valid-lifetime", "max-valid-lifetime"]
+TIMERS = ["renew-timer", "rebind-timer", "calculate-tee-times", "t1-percent", "t2-percent"]
 
 
 def some_relays(chance):
@@ -80,6 +86,68 @@ def with_boot_keys(chance, root):
     return root
 
 
+def is_usual(lifetimes):
+    """Whether the bounds of a lifetime are in order."""
+    least, usual, most = lifetimes
+    return least <= usual <= most
+
+
+def is_taken(places):
+    """Whether Kea takes the times of the first of these places: lifetimes, timers and shares are in order, with those above it."""
+    renew, rebind = (judge.nearest(places, key, None) for key in TIMERS[:2])
+    shares = judge.nearest(places, "t1-percent", 0.5) < judge.nearest(places, "t2-percent", 0.875)
+    in_order = None in (renew, rebind) or renew <= rebind
+    return is_usual(judge.lifetimes(places)) and in_order and (shares or not judge.nearest(places, "calculate-tee-times", False))
+
+
+def are_sent(root):
+    """Whether the times of the whole server that are given or calculated are ones that Kea sends with its own lifetime."""
+    lifetime = judge.lifetimes([root])[1]
+    sent = judge.timers_sent([root], lifetime)
+    is_calculated = root.get("calculate-tee-times", False)
+    asked = [is_calculated or key in root for key in TIMERS[:2]]
+    renew, rebind = (root.get(key, usual) for key, usual in zip(TIMERS, (lifetime // 2, lifetime * 7 // 8)))
+    return all(time or not is_asked for time, is_asked in zip(sent, asked)) and (is_calculated or renew <= rebind)
+
+
+def time_keys(chance, often):
+    """Values for some of the keys of times, or none."""
+    values = {key: chance.choice(SECONDS) for key in LIFETIMES if chance.random() < often}
+    values.update({key: chance.choice([0, *SECONDS]) for key in TIMERS[:2] if chance.random() < often / 2})
+    values.update({key: chance.choice(SHARES) for key in TIMERS[3:] if chance.random() < often / 2})
+    return {**values, TIMERS[2]: chance.random() < 0.7} if chance.random() < often else values
+
+
+def with_times(chance, holder, above, often):
+    """Gives a place some keys of times: those of the first of several attempts that go together, or none."""
+    for _ in range(8):
+        values = time_keys(chance, often)
+        if is_taken([{**holder, **values}, *above]) and (above or are_sent({**holder, **values})):
+            holder.update(values)
+            return
+
+
+def with_lifetime(chance, entry, often):
+    """Gives a class a lifetime, perhaps with bounds; or none."""
+    values = {key: chance.choice(SECONDS) for key in LIFETIMES if chance.random() < often}
+    usual = judge.lifetimes_of_class(values)
+    if usual and is_usual(usual) and (LIFETIMES[0] in values or len(values) == 1):
+        entry.update(values)
+
+
+def with_all_times(chance, root):
+    """The configuration with times of the whole server, and of its networks, subnets and classes."""
+    often = chance.choice([0, 0, 0.2, 0.6])
+    with_times(chance, root, [], often)
+    for each in root["shared-networks"]:
+        with_times(chance, each, [root], often)
+    for subnet, network_of_it in judge.subnets_of(root):
+        with_times(chance, subnet, [network_of_it, root], often)
+    for entry in root["client-classes"]:
+        with_lifetime(chance, entry, often)
+    return root
+
+
 def configuration(chance):
     """A configuration of histories.py in Kea's form, apart from the keys of kea_words."""
     root = histories.configuration(chance)
@@ -101,7 +169,7 @@ def configuration(chance):
             root["shared-networks"].append(network(chance, len(root["shared-networks"]), taken, names))
         else:
             root["subnet4"] += taken
-    return with_boot_keys(chance, with_hosts(chance, root))
+    return with_all_times(chance, with_boot_keys(chance, with_hosts(chance, root)))
 
 
 def history(chance):
