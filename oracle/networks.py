@@ -95,7 +95,7 @@ def is_usual(lifetimes):
 def is_taken(places):
     """Whether Kea takes the times of the first of these places: lifetimes, timers and shares are in order, with those above it."""
     renew, rebind = (judge.nearest(places, key, None) for key in TIMERS[:2])
-    shares = judge.nearest(places, "t1-percent", 0.5) < judge.nearest(places, "t2-percent", 0.875)
+    shares = 0 < judge.nearest(places, "t1-percent", 0.5) < judge.nearest(places, "t2-percent", 0.875) < 1
     in_order = None in (renew, rebind) or renew <= rebind
     return is_usual(judge.lifetimes(places)) and in_order and (shares or not judge.nearest(places, "calculate-tee-times", False))
 
@@ -114,7 +114,7 @@ def time_keys(chance, often):
     """Values for some of the keys of times, or none."""
     values = {key: chance.choice(SECONDS) for key in LIFETIMES if chance.random() < often}
     values.update({key: chance.choice([0, *SECONDS]) for key in TIMERS[:2] if chance.random() < often / 2})
-    values.update({key: chance.choice(SHARES) for key in TIMERS[3:] if chance.random() < often / 2})
+    values.update({key: chance.choice([*SHARES, round(chance.random(), 4)]) for key in TIMERS[3:] if chance.random() < often / 2})
     return {**values, TIMERS[2]: chance.random() < 0.7} if chance.random() < often else values
 
 
