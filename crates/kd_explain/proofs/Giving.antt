@@ -1,9 +1,19 @@
--- Which class is the first that gives something: an option with a code, or a value to a boot field.
-use Rattle.std.proofs.Common.{◌≡◌, ℕ, zero, suc, ◌+◌, ◌<◌, ◌≤◌, arith, Bool, false, List, [], ◌∷◌, ◌⊎◌, inl, inr, length, drop, take, Some, sym, ap, ◌∙◌, subst, ⊎_elim}
+-- Which class is the first that gives something: an option with a code, a value to a boot field, or a
+-- lifetime.
+use Rattle.std.proofs.Common.{◌≡◌, ℕ, zero, suc, ◌+◌, ◌<◌, ◌≤◌, arith, Bool, false, List, [], ◌∷◌, ◌⊎◌, inl, inr, length, drop, take, Some, refl, sym, ap, ◌∙◌, subst, ⊎_elim}
 use Rattle.std.specs.Prelude.{slice_get}
 use Rattle.std.proofs.lemmas.List.{at_drop_all}
 use Rattle.kd_classes.specs.declared.definition.ClassDef.{ClassDef}
+use Rattle.kd_explain.specs.Gift.{class_among_gives}
+use Rattle.kd_explain.specs.declared.gift.Gift.{Gift}
+use Rattle.kd_explain.specs.declared.gift.Gift.TheVariants as gifts
 use Rattle.kd_explain.proofs.Testing.{left_at}
+
+-- where there is no class, none gives it
+pub none_given : (gift : Gift) (names : List (List ℕ)) → class_among_gives gift [] names ≡ false
+none_given (gifts.Code code) names = refl
+none_given (gifts.Field field) names = refl
+none_given gifts.Lifetime names = refl
 
 below_or : (j i : ℕ) → j < i + 1 → (j < i) ⊎ (j ≡ i)
 below_or j zero h = inr (omega (arith, h))

@@ -34,10 +34,6 @@ one_gives field boots = list_any (gives_field field) boots
 abbrev pub boots_of_class : List ClassDef → List (List ℕ) → ℕ → List Boot
 boots_of_class classes names i = class_boots (take 1 (drop i classes)) names
 
--- the class at an index gives a value to a field, for a message with these class names
-abbrev pub class_gives : List ClassDef → List (List ℕ) → BootField → ℕ → Bool
-class_gives classes names field i = one_gives field (boots_of_class classes names i)
-
 -- what an origin gives at an address of a subnet, to a message with these class names; in a
 -- network, the subnet is the one in it that has the address
 abbrev pub boots_from : Configuration → Subnet → List (List ℕ) → Seen → ℕ → Origin → List Boot

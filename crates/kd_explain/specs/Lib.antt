@@ -3,7 +3,9 @@ pub mod BootLines
 pub mod CheckLines
 pub mod Explaining
 pub mod FoundLines
+pub mod Gift
 pub mod Laws
+pub mod Lifetimes
 pub mod Origins
 pub mod OutcomeLines
 pub mod Testing

@@ -20,10 +20,6 @@ has_code code options = list_any (λ option. option.code == code) options
 abbrev pub options_of_class : List ClassDef → List (List ℕ) → ℕ → List OptionData
 options_of_class classes names i = class_options (take 1 (drop i classes)) names
 
--- the class at an index gives an option with the code to a message with these class names
-abbrev pub class_has : List ClassDef → List (List ℕ) → ℕ → ℕ → Bool
-class_has classes names code i = has_code code (options_of_class classes names i)
-
 -- the options of an origin at an address of a subnet, for a message with these class names; in a
 -- network, subnet, network and mask are those of the subnet in it that has the address
 abbrev pub options_from : Configuration → Subnet → List (List ℕ) → Seen → ℕ → Origin

@@ -3,7 +3,9 @@
 use Rattle.std.specs.Prelude.{◌≡◌, ℕ, max, Bool, true, false, ◌==◌, ◌||◌, if◌then◌else◌, List, [], ◌∷◌, ◌++◌, Option, Some, None, Result, Ok, Err, codes, decimal, slice_get, option_copied}
 use Rattle.kd_classes.specs.declared.definition.ClassDef.{ClassDef}
 use Rattle.kd_config.specs.Configuration.{Configuration}
+use Rattle.kd_config.specs.Networks.{part_holding}
 use Rattle.kd_config.specs.declared.subnet.Subnet.{Subnet}
+use Rattle.kd_config.specs.declared.term.Term.{Term}
 use Rattle.kd_event.specs.Reason.{reason_name, reason_number}
 use Rattle.kd_event.specs.declared.reason.Reason.{Reason}
 use Rattle.kd_lease.specs.declared.plan.Plan.{Plan}
@@ -18,6 +20,7 @@ use Rattle.kd_rows.specs.declared.row.Row.{Row}
 use Rattle.kd_text.specs.Text.{address_text, bytes_text}
 use Rattle.kd_wire.specs.declared.header.Header.{Header}
 use Rattle.kd_explain.specs.BootLines.{IsBootOrigin, field_line}
+use Rattle.kd_explain.specs.Lifetimes.{IsLifetimeOrigin}
 use Rattle.kd_explain.specs.Origins.{IsOrigin}
 use Rattle.kd_explain.specs.Words.{name_text}
 use Rattle.kd_explain.specs.declared.boot_origins.BootField.{BootField}
@@ -73,6 +76,25 @@ origin_word classes (Some origins.Mask) = codes "mask"
 abbrev pub required_word : ℕ → List ℕ
 required_word code = if code == 61 || code == 82 then codes "message" else codes "reply"
 
+-- where the lifetime comes from; `reply` if it is that of the whole server
+abbrev pub lifetime_word : List ClassDef → Option Origin → List ℕ
+lifetime_word classes None = codes "reply"
+lifetime_word classes (Some origin) = origin_word classes (Some origin)
+
+-- the term at an address of the subnet that serves a message, if there is one; in a network, that of
+-- the subnet in it that has the address
+abbrev pub term_in : Configuration → Option Subnet → ℕ → Option Term
+term_in config None a = None
+term_in config (Some s) a = (part_holding config.subnets s a).term
+
+-- where an option that a reply must have comes from, by whether it is option 51, the lifetime
+abbrev pub IsRequiredWord : Configuration → List (List ℕ) → Option Subnet → ℕ → Bool → ℕ → List ℕ
+    → Type 0
+IsRequiredWord config names s a true code word =
+    (origin : Option Origin) × IsLifetimeOrigin config (term_in config s a) names origin
+    × (word ≡ lifetime_word config.classes origin)
+IsRequiredWord config names s a false code word = word ≡ required_word code
+
 -- where a configured option of the reply to a message comes from at an address of the subnet that
 -- serves the message
 abbrev pub IsConfiguredWord : Configuration → Seen → List (List ℕ) → Option Subnet → ℕ → ℕ
@@ -85,7 +107,8 @@ IsConfiguredWord config m names (Some s) a code word =
 -- where an option comes from, by whether the reply must have it
 abbrev pub IsSourceWord : Configuration → Seen → List (List ℕ) → Option Subnet → ℕ → Bool → ℕ
     → List ℕ → Type 0
-IsSourceWord config m names s a true code word = word ≡ required_word code
+IsSourceWord config m names s a true code word =
+    IsRequiredWord config names s a (code == 51) code word
 IsSourceWord config m names s a false code word = IsConfiguredWord config m names s a code word
 
 -- whether the written reply has an option

@@ -1,10 +1,11 @@
-ghost use Rattle.std.specs.Prelude.{◌≡◌, ℕ, ◌<◌, ◌∷◌, [], MatchOption, false, length, true};
+ghost use Rattle.std.specs.Prelude.{◌≡◌};
 ghost use Rattle.std.specs.Option.{option_copied};
-ghost use Rattle.kd_lease.specs.Booting.{boots_reserved, class_boots};
-ghost use Rattle.kd_explain.specs.BootLines.{IsBootOrigin, class_gives, gives_field, one_gives};
+ghost use Rattle.kd_lease.specs.Booting.{boots_reserved};
+ghost use Rattle.kd_explain.specs.BootLines.{IsBootOrigin, gives_field, one_gives};
 
+use crate::gift::{Gift, class_giving};
 use crate::origins::Origin;
-use kd_classes::{Boot, ClassDef, Classes};
+use kd_classes::Boot;
 use kd_config::{Config, Reservation, Subnet};
 use kd_lease::reservation_for;
 use kd_machine::Held;
@@ -38,7 +39,7 @@ pub fn boot_origin_of(
     if host_gives(reservation_for(config, message, subnet, address), field) {
         return Some(Origin::Reservation);
     }
-    if let Some(index) = class_giving(config.classes(), names, field) {
+    if let Some(index) = class_giving(config.classes(), names, Gift::Field(field)) {
         return Some(Origin::Class(index));
     }
     let part = config.member_with(subnet, address);
@@ -59,34 +60,6 @@ fn host_gives(reservation: Option<&Reservation>, field: BootField) -> bool
     }
 }
 
-// Returns the index of the first class that gives a value to a field and of which the client is a
-// member.
-fn class_giving(classes: &Classes, names: &Held, field: BootField) -> Option<usize>
-    ensures { MatchOption result
-        ((j : ℕ) → class_gives classes.now names.now field j ≡ false)
-        (λ i. (i < length classes.now) × (class_gives classes.now names.now field i ≡ true)
-        × ((j : ℕ) → j < i → class_gives classes.now names.now field j ≡ false)) }
-{
-    for i in 0..classes.len() {
-        match classes.def_at(i) {
-            Some(class) => {
-                if gives_to_members(class, names, field) {
-                    return Some(i);
-                }
-            }
-            None => unreachable!(),
-        }
-    }
-    None
-}
-
-// Reports whether the client is a member of the class and the class gives a value to a field.
-fn gives_to_members(class: &ClassDef, names: &Held, field: BootField) -> bool
-    ensures { result ≡ one_gives field (class_boots (class.now ∷ []) names.now) }
-{
-    names.contains(class.name.as_slice()) && gives(class.boot, field)
-}
-
 // Reports whether one of these gives a value to a field.
 fn any_gives(boots: &[Boot], field: BootField) -> bool
     ensures { result ≡ one_gives field boots.now }
@@ -95,7 +68,7 @@ fn any_gives(boots: &[Boot], field: BootField) -> bool
 }
 
 // Reports whether a value is given to a field.
-fn gives(boot: Boot, field: BootField) -> bool
+pub(crate) fn gives(boot: Boot, field: BootField) -> bool
     ensures { result ≡ gives_field field boot }
 {
     match field {

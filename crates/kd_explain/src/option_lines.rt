@@ -1,15 +1,17 @@
-ghost use Rattle.std.specs.Prelude.{◌≡◌, ◌++◌, ℕ, IfOk, List, OnOk, Some, codes, decimal, option_copied, string_bytes};
+ghost use Rattle.std.specs.Prelude.{◌≡◌, ◌==◌, ◌++◌, ℕ, IfOk, List, OnOk, Some, codes, decimal, option_copied, string_bytes};
 ghost use Rattle.kd_text.specs.Text.{bytes_text};
-ghost use Rattle.kd_explain.specs.OutcomeLines.{AreOptionLines, AreOptionsOf, IsConfiguredWord, IsSentLine, IsSourceWord};
-ghost use Rattle.kd_explain.specs.OutcomeLines.{origin_class, options_address, origin_word, required_word, room_word, written};
+ghost use Rattle.kd_explain.specs.Lifetimes.{IsLifetimeOrigin};
+ghost use Rattle.kd_explain.specs.OutcomeLines.{AreOptionLines, AreOptionsOf, IsConfiguredWord, IsRequiredWord, IsSentLine, IsSourceWord};
+ghost use Rattle.kd_explain.specs.OutcomeLines.{lifetime_word, origin_class, options_address, origin_word, required_word, room_word, term_in, written};
 
+use crate::lifetime_origins::lifetime_origin_of;
 use crate::origins::{Origin, origin_of};
 use crate::text::Scene;
 use crate::words::put_name;
 use kd_classes::{ClassDef, Classes};
 use kd_config::Subnet;
 use kd_lease::{Plan, PlanKind};
-use kd_options::codes::{OPTION_CLIENT_IDENTIFIER, OPTION_RELAY_INFORMATION};
+use kd_options::codes::{OPTION_CLIENT_IDENTIFIER, OPTION_LEASE_TIME, OPTION_RELAY_INFORMATION};
 use kd_options::{Item, Message};
 use kd_text::put_bytes;
 use std::alloc::{AllocError, Global};
@@ -134,9 +136,59 @@ fn put_source(out: &mut String, sources: &Sources<'_>, item: &Item) -> Result<()
         × (string_bytes out.new ≡ string_bytes out.old ++ word)) }
 {
     if item.obligatory {
-        out.push_str(required_by(item.code))
+        put_required(out, sources, item.code)
     } else {
         put_configured(out, sources, item.code)
+    }
+}
+
+// Prints where an option that the reply must have comes from.
+fn put_required(out: &mut String, sources: &Sources<'_>, code: u8) -> Result<(), AllocError>
+    ensures { OnOk result ((word : List ℕ)
+        × IsRequiredWord sources.now.scene.now.config.now
+        sources.now.scene.now.explanation.now.names
+        (option_copied sources.now.scene.now.explanation.now.subnet) sources.now.address
+        (code == 51) code word
+        × (string_bytes out.new ≡ string_bytes out.old ++ word)) }
+{
+    if code == OPTION_LEASE_TIME {
+        put_lifetime(out, sources.scene, origin_of_lifetime(sources))
+    } else {
+        out.push_str(required_by(code))
+    }
+}
+
+// Returns where the lifetime comes from, unless it is that of the whole server.
+fn origin_of_lifetime(sources: &Sources<'_>) -> Option<Origin>
+    ensures { IsLifetimeOrigin sources.now.scene.now.config.now
+        (term_in sources.now.scene.now.config.now
+        (option_copied sources.now.scene.now.explanation.now.subnet) sources.now.address)
+        sources.now.scene.now.explanation.now.names result }
+{
+    let scene = sources.scene;
+    match scene.explanation.subnet {
+        Some(subnet) => lifetime_origin_of(
+            scene.config,
+            subnet,
+            &scene.explanation.names,
+            sources.address,
+        ),
+        None => None,
+    }
+}
+
+// Prints where the lifetime comes from.
+fn put_lifetime(
+    out: &mut String,
+    scene: &Scene<'_>,
+    origin: Option<Origin>,
+) -> Result<(), AllocError>
+    ensures { OnOk result (string_bytes out.new
+        ≡ string_bytes out.old ++ lifetime_word scene.now.config.now.classes origin) }
+{
+    match origin {
+        Some(_) => put_origin(scene.alloc, out, scene.config.classes(), origin),
+        None => out.push_str("reply"),
     }
 }
 

@@ -1,8 +1,8 @@
-ghost use Rattle.std.specs.Prelude.{◌≡◌, ℕ, ◌<◌, ◌∷◌, [], MatchOption, false, length, true};
-ghost use Rattle.kd_lease.specs.Given.{class_options};
-ghost use Rattle.kd_explain.specs.Origins.{IsOrigin, class_has, has_code};
+ghost use Rattle.std.specs.Prelude.{◌≡◌};
+ghost use Rattle.kd_explain.specs.Origins.{IsOrigin, has_code};
 
-use kd_classes::{ClassDef, Classes, OptionData};
+use crate::gift::{Gift, class_giving};
+use kd_classes::OptionData;
 use kd_config::{Config, Subnet};
 use kd_lease::{pool_options, reservation_options};
 use kd_machine::Held;
@@ -57,7 +57,7 @@ pub fn origin_of(
     if lists(part.shared.as_slice(), code) {
         return Some(Origin::Network);
     }
-    if let Some(index) = class_with(config.classes(), names, code) {
+    if let Some(index) = class_giving(config.classes(), names, Gift::Code(code)) {
         return Some(Origin::Class(index));
     }
     if lists(config.options(), code) {
@@ -66,35 +66,8 @@ pub fn origin_of(
     if code == 1 { Some(Origin::Mask) } else { None }
 }
 
-// Returns the index of the first class that has the code and of which the client is a member.
-fn class_with(classes: &Classes, names: &Held, code: u8) -> Option<usize>
-    ensures { MatchOption result
-        ((j : ℕ) → class_has classes.now names.now code j ≡ false)
-        (λ i. (i < length classes.now) × (class_has classes.now names.now code i ≡ true)
-        × ((j : ℕ) → j < i → class_has classes.now names.now code j ≡ false)) }
-{
-    for i in 0..classes.len() {
-        match classes.def_at(i) {
-            Some(class) => {
-                if gives(class, names, code) {
-                    return Some(i);
-                }
-            }
-            None => unreachable!(),
-        }
-    }
-    None
-}
-
-// Reports whether the client is a member of the class and the class lists the code.
-fn gives(class: &ClassDef, names: &Held, code: u8) -> bool
-    ensures { result ≡ has_code code (class_options (class.now ∷ []) names.now) }
-{
-    names.contains(class.name.as_slice()) && lists(class.options.as_slice(), code)
-}
-
 // Reports whether options list a code.
-fn lists(options: &[OptionData], code: u8) -> bool
+pub(crate) fn lists(options: &[OptionData], code: u8) -> bool
     ensures { result ≡ has_code code options.now }
 {
     options.iter().any(|option| option.code == code)

@@ -1,6 +1,0 @@
-use Rattle.std.proofs.Common.{◌≡◌, ℕ, ◌<◌, false}
-use Rattle.kd_explain.specs.BootLines.{class_gives}
-use Rattle.kd_explain.proofs.boot_origins.class_giving.Given as goal
-
-abbrev pub invariant-loop-i : goal.invariant-loop-i
-invariant-loop-i l = (j : ℕ) → j < l.i → class_gives l.classes l.names l.field j ≡ false
