@@ -235,5 +235,6 @@ module _ (founded : EndsAreFounded) (q : Asking) (sound : IsSound q.config) (fie
 pub replies_read : EndsAreFounded → MessagesHaveSizes → RepliesReadBack
 replies_read founded sizes config old new m now kind yiaddr content text sound message changes is =
     let answer = answered config old new m now kind yiaddr content changes in
-    let granted = record { names = changes.names; held = changes.held; client = answer.0; by = answer.1; are = refl } in
-    answer_reads founded (asked_for config old changes.names m now answer.0) sound (sizes m message).fields kind yiaddr content answer.2 is.0 is.1 granted text is.2
+    let q = asked_for config old changes.names m now answer.0 in
+    let granted : AreGranted config old m now yiaddr (granted_times q yiaddr) = record { names = changes.names; held = changes.held; client = answer.0; by = answer.1; are = refl } in
+    answer_reads founded q sound (sizes m message).fields kind yiaddr content answer.2 is.0 is.1 granted text is.2
