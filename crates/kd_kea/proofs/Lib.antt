@@ -15,6 +15,7 @@ pub mod SoundNames
 pub mod Parts
 pub mod SoundParts
 pub mod SoundBoot
+pub mod SoundLifetimes
 pub mod SoundClients
 pub mod SoundSubnets
 pub mod SoundNetworks

@@ -28,8 +28,9 @@ use Rattle.kd_kea.specs.HostClient.{kea_client}
 use Rattle.kd_kea.specs.HostKinds.{are_all_found, is_found_if_given, kind_key, kinds_given, kinds_in_order}
 use Rattle.kd_kea.specs.HostName.{has_bare_names, host_name, host_options, may_be_named, server_has_bare_names}
 use Rattle.kd_kea.specs.Keys.{keys_are_read}
-use Rattle.kd_kea.specs.Notes.{KeyNote, ObjectNotes, above_by, all_subnet_notes, around_members, around_of, beside_note, boot_in, boot_notes, inherited_notes, inside_notes, kea_inside, network_below, network_lists, network_notes, network_own, network_values, outside_in, prefix_given, class_notes, data_notes, definition_note, definition_notes, each_described, flag_note, have_refused, host_notes, host_values, is_not_failed, kind_notes, is_served_if_given, item_notes, items_of, kea_below, kea_beside, kea_notes, kea_value, usable_definitions, list_notes, listed_notes, lists_by, name_notes, note_on_name, note_unless, notes_at, notes_of_each, number_note, object_notes, option_notes, or_wrong, own_notes, pool_notes, relay_notes, right_definitions, root_notes, server_lists, server_flags, server_notes, server_times, server_values, subnet_lists, subnet_notes, subnet_own, subnet_values, text_note, all_times, value_notes, with_first, required_notes}
-use Rattle.kd_kea.specs.Network.{above_members, as_member, has_network_form, is_in_one_of, is_interface_of, kea_common, kea_member, kea_network, kea_subnets, may_be_of, one_class}
+use Rattle.kd_kea.specs.Lifetimes.{class_lifetime, has_class_lifetime, kea_keys, usual_keys}
+use Rattle.kd_kea.specs.Notes.{KeyNote, ObjectNotes, above_by, all_subnet_notes, around_members, around_of, beside_note, boot_in, boot_notes, class_lifetime_notes, keys_in_network, policy_notes, service_notes, subnet_times, term_notes, inside_notes, kea_inside, network_below, network_lists, network_notes, network_own, network_values, outside_in, prefix_given, class_notes, data_notes, definition_note, definition_notes, each_described, flag_note, have_refused, host_notes, host_values, is_not_failed, kind_notes, is_served_if_given, item_notes, items_of, kea_below, kea_beside, kea_notes, kea_value, usable_definitions, list_notes, listed_notes, lists_by, name_notes, note_on_name, note_unless, notes_at, notes_of_each, number_note, object_notes, option_notes, or_wrong, own_notes, pool_notes, relay_notes, right_definitions, root_notes, server_lists, server_flags, server_notes, server_times, subnet_lists, subnet_notes, subnet_own, subnet_values, text_note, all_times, value_notes, with_first, required_notes}
+use Rattle.kd_kea.specs.Network.{as_member, has_network_form, is_in_one_of, is_interface_of, kea_common, kea_member, kea_network, kea_subnets, may_be_of, one_class}
 use Rattle.kd_kea.specs.Options.{is_served_space, kea_entry, kea_options, server_address}
 use Rattle.kd_kea.specs.Parts.{parts_of_all}
 use Rattle.kd_kea.specs.Pool.{kea_pool, kea_range, may_require}
@@ -37,19 +38,20 @@ use Rattle.kd_kea.specs.Policy.{kea_policy, repeats_policy}
 use Rattle.kd_kea.specs.Reservation.{address_if_given, kea_reservation}
 use Rattle.kd_kea.specs.Settings.{has_server_form, kea_dhcp4, kea_root, kea_settings_with}
 use Rattle.kd_kea.specs.Relay.{kea_relay, relays_of}
-use Rattle.kd_kea.specs.Subnet.{has_subnet_form, is_at_server, kea_subnet, kea_subnet_with, stand_beside}
+use Rattle.kd_kea.specs.Subnet.{above_within, has_subnet_form, is_at_server, kea_subnet, kea_subnet_with, stand_beside}
 use Rattle.kd_kea.specs.Tables.{class_keys, data_keys, definition_keys, host_keys, network_keys, pool_keys, relay_keys, root_keys, server_keys, subnet_keys}
-use Rattle.kd_kea.specs.Times.{has_usual_shares, kea_times, repeats_times, shares_given}
+use Rattle.kd_kea.specs.Times.{kea_times}
 use Rattle.kd_kea.specs.Values.{flag_given, flag_or, text_otherwise, unless_empty}
 use Rattle.kd_kea.specs.declared.notes.NoteKind.TheVariants.{Unknown, Wrong}
 use Rattle.kd_kea.specs.declared.notes.around.Around.{Around}
 use Rattle.kd_kea.specs.declared.objects.definition.Definition.{Definition}
 use Rattle.kd_kea.specs.declared.objects.host_kinds.HostKinds.{HostKinds}
+use Rattle.kd_kea.specs.declared.objects.lifetimes.TermKeys.{TermKeys}
 use Rattle.kd_kea.specs.declared.objects.network.Common.{Common}
 use Rattle.kd_kea.specs.declared.objects.policy.Policy.{Policy}
 use Rattle.kd_kea.specs.declared.objects.subnet.Above.{Above}
 use Rattle.kd_wire.specs.Steps.{◌>>=◌}
-use Rattle.kd_kea.proofs.NoneWrong.{none_in_both, own_boot_pass, boot_pass, own_pass, unless_none, right, flag_right, wrong_none, object_none, is_object, form_of, server_values_pass, bind_is, server_times_pass, Fits, subnet_values_pass, address_known, times_known, around_fits, above_known, below_known, inherited_pass, must_hold}
+use Rattle.kd_kea.proofs.NoneWrong.{none_in_both, own_boot_pass, boot_pass, own_pass, unless_none, right, flag_right, wrong_none, object_none, is_object, form_of, services_pass, bind_is, server_times_pass, Fits, subnet_values_pass, address_known, around_fits, above_known, below_known, class_lifetime_pass, must_hold, policy_pass, subnet_times_pass, term_pass}
 
 -- ---- definitions, each by itself
 
@@ -230,21 +232,25 @@ class_pass known d class path e =
     let text = came_from (text_if_given (get (codes "test") d)) _ class name.gives in
     let options = came_from (kea_class_options known d) _ class text.gives in
     let boot = came_from (own_boot d) _ class options.gives in
+    let lifetime = came_from (class_lifetime d) _ class boot.gives in
     let own = came_from (kea_definitions true (get (codes "option-def") d)) _ options.first options.is in
     let keyed = own_notes class_keys path d in
     let of_name = note_unless (is_some (get (codes "name") d >>= class_name_in)) Wrong path (codes "name") in
     let of_test = text_note (codes "test") path d in
     let of_boot = boot_notes path d in
+    let of_lifetime = class_lifetime_notes path d in
     let definitions = definition_notes true path d in
     let given = option_notes false (right_definitions true d ++ known) path d in
-    object_none (kea_class known d) class path d (keyed ++ of_name ++ of_test ++ of_boot ++ definitions ++ given) e (is_object class_keys d keys.0)
-    (none_in_both (keyed ++ of_name ++ of_test ++ of_boot ++ definitions) given
-    (none_in_both (keyed ++ of_name ++ of_test ++ of_boot) definitions
+    object_none (kea_class known d) class path d (keyed ++ of_name ++ of_test ++ of_boot ++ of_lifetime ++ definitions ++ given) e (is_object class_keys d keys.0)
+    (none_in_both (keyed ++ of_name ++ of_test ++ of_boot ++ of_lifetime ++ definitions) given
+    (none_in_both (keyed ++ of_name ++ of_test ++ of_boot ++ of_lifetime) definitions
+    (none_in_both (keyed ++ of_name ++ of_test ++ of_boot) of_lifetime
     (none_in_both (keyed ++ of_name ++ of_test) of_boot
     (none_in_both (keyed ++ of_name) of_test
     (none_in_both keyed of_name (own_pass class_keys path d keys.0) (right (get (codes "name") d >>= class_name_in) name.first path (codes "name") name.is))
     (right (text_if_given (get (codes "test") d)) text.first path (codes "test") text.is))
     (own_boot_pass path d boot.first boot.is))
+    (class_lifetime_pass path d lifetime.first lifetime.is))
     (definitions_pass true d own.first path own.is))
     (subst (λ (its : List Definition). have_refused (option_notes false (its ++ known) path d) ≡ false) (sym (right_all true d own.first own.is)) (options_pass false (own.first ++ known) d options.first path own.gives)))
 
@@ -258,7 +264,6 @@ relay_pass path (Some d) relays e =
 -- what a value with the form of a subnet has
 record HasSubnetForm (above : Above) (d : Data) : Type 0 where
   keys : keys_are_read subnet_keys d ≡ true
-  times : repeats_times above.calculated above.shares above.times d ≡ Some tt
   policy : repeats_policy above.policy d ≡ true
   id : is_some (number_if_given 1 4294967294 1 (get (codes "id") d)) ≡ true
 
@@ -266,50 +271,80 @@ subnet_form : (above : Above) (d : Data) → has_subnet_form above d ≡ Some tt
 unfolding has_subnet_form
 subnet_form above d e =
     let keys = passed (keys_are_read subnet_keys d) _ tt e in
-    let times = came_from (repeats_times above.calculated above.shares above.times d) _ tt keys.1 in
-    let policy = passed (repeats_policy above.policy d) _ tt times.gives in
+    let policy = passed (repeats_policy above.policy d) _ tt keys.1 in
     let id = came_from (number_if_given 1 4294967294 1 (get (codes "id") d)) _ tt policy.1 in
-    record { keys = keys.0; times = times.is; policy = policy.0; id = ap is_some id.is }
+    record { keys = keys.0; policy = policy.0; id = ap is_some id.is }
 
--- the lists, the relay and the boot fields of a subnet
+-- what holds in a value is what its keys say, and else what holds above it
+record Within (above within : Above) (d : Data) : Type 0 where
+  server : within.server ≡ above.server
+  times : within.times ≡ above.times
+  keys : kea_keys above.keys d ≡ Some within.keys
+  by_class : within.by_class ≡ above.by_class
+  outside : flag_or above.outside (get (codes "reservations-out-of-pool") d) ≡ Some within.outside
+  kinds : within.kinds ≡ above.kinds
+  bare : within.bare ≡ has_bare_names above.bare d
+  policy : within.policy ≡ above.policy
+  boot : boot_in (Some above.boot) d ≡ Some within.boot
+  noted : (path : List ℕ) → have_refused (boot_notes path d) ≡ false
+
+within_of : (above within : Above) (d : Data) → above_within above d ≡ Some within → Within above within d
+unfolding above_within boot_in
+within_of above within d e =
+    let keys = came_from (kea_keys above.keys d) _ within e in
+    let outside = came_from (flag_or above.outside (get (codes "reservations-out-of-pool") d)) _ within keys.gives in
+    let boot = came_from (kea_boot d) _ within outside.gives in
+    subst (λ (w : Above). Within above w d) (some_is _ within boot.gives) (record {
+      server = refl;
+      times = refl;
+      keys = keys.is;
+      by_class = refl;
+      outside = outside.is;
+      kinds = refl;
+      bare = refl;
+      policy = refl;
+      boot = bind_is (kea_boot d) boot.first _ (boot_or boot.first above.boot) boot.is refl;
+      noted = λ path. boot_pass path d boot.first boot.is;
+    })
+
+-- the lists and the relay of a subnet
 record ListsPass (known : List Definition) (kinds : HostKinds) (bare : Bool) (path : List ℕ) (d : Data) : Type 0 where
   options : have_refused (option_notes false known path d) ≡ false
   relay : have_refused (notes_at relay_notes path (codes "relay") d) ≡ false
   pools : have_refused (listed_notes 64 (pool_notes known) (codes "pools") path d) ≡ false
   hosts : have_refused (listed_notes 4096 (host_notes known kinds bare) (codes "reservations") path d) ≡ false
-  boot : have_refused (boot_notes path d) ≡ false
 
-subnet_lists_pass : (known : List Definition) (kinds : HostKinds) (bare outside : Bool) (above : Boot) (prefix : Prefix) (class : Option (List ℕ)) (path : List ℕ) (d : Data) (subnet : Subnet) → kea_subnet_with known kinds bare outside above prefix class d ≡ Some subnet → ListsPass known kinds bare path d
+subnet_lists_pass : (known : List Definition) (within : Above) (prefix : Prefix) (class : Option (List ℕ)) (path : List ℕ) (d : Data) (subnet : Subnet) → kea_subnet_with known within prefix class d ≡ Some subnet → ListsPass known within.kinds within.bare path d
 unfolding kea_subnet_with
-subnet_lists_pass known kinds bare outside above prefix class path d subnet e =
+subnet_lists_pass known within prefix class path d subnet e =
     let relays = came_from (relays_of (get (codes "relay") d)) _ subnet e in
     let parts = came_from (list_of 64 (kea_pool known) (get (codes "pools") d) >>= parts_of_all) _ subnet relays.gives in
     let pools = came_from (list_of 64 (kea_pool known) (get (codes "pools") d)) parts_of_all parts.first parts.is in
-    let hosts = came_from (list_of 4096 (kea_reservation known kinds bare) (get (codes "reservations") d)) _ subnet parts.gives in
-    let beside = passed (stand_beside outside parts.first hosts.first) _ subnet hosts.gives in
+    let hosts = came_from (list_of 4096 (kea_reservation known within.kinds within.bare) (get (codes "reservations") d)) _ subnet parts.gives in
+    let beside = passed (stand_beside within.outside parts.first hosts.first) _ subnet hosts.gives in
     let options = came_from (kea_options false known (get (codes "option-data") d)) _ subnet beside.1 in
-    let boot = came_from (kea_boot d) _ subnet options.gives in
     record {
       options = options_pass false known d options.first path options.is;
       relay = relay_pass (path_below path (codes "relay")) (get (codes "relay") d) relays.first relays.is;
       pools = listed_pass 64 (kea_pool known) (pool_notes known) (pool_pass known) (codes "pools") path d pools.first pools.is;
-      hosts = listed_pass 4096 (kea_reservation known kinds bare) (host_notes known kinds bare) (host_pass known kinds bare) (codes "reservations") path d hosts.first hosts.is;
-      boot = boot_pass path d boot.first boot.is;
+      hosts = listed_pass 4096 (kea_reservation known within.kinds within.bare) (host_notes known within.kinds within.bare) (host_pass known within.kinds within.bare) (codes "reservations") path d hosts.first hosts.is;
     }
 
-beside_pass : (given : Option Bool) (kinds : HostKinds) (other bare : Bool) (known : List Definition) (outside : Bool) (above : Boot) (prefix : Prefix) (class : Option (List ℕ)) (path : List ℕ) (d : Data) (subnet : Subnet) → given ≡ Some other → flag_or other (get (codes "reservations-out-of-pool") d) ≡ Some outside → kea_subnet_with known kinds (has_bare_names bare d) outside above prefix class d ≡ Some subnet
+beside_pass : (given : Option Bool) (kinds : HostKinds) (other bare : Bool) (known : List Definition) (within : Above) (prefix : Prefix) (class : Option (List ℕ)) (path : List ℕ) (d : Data) (subnet : Subnet) → given ≡ Some other → flag_or other (get (codes "reservations-out-of-pool") d) ≡ Some within.outside → within.kinds ≡ kinds → within.bare ≡ has_bare_names bare d → kea_subnet_with known within prefix class d ≡ Some subnet
     → have_refused (beside_note given kinds bare known path d) ≡ false
 unfolding kea_subnet_with kea_beside
-beside_pass given kinds other bare known outside above prefix class path d subnet e f g =
+beside_pass given kinds other bare known within prefix class path d subnet e f same_kinds same_bare g =
     let relays = came_from (relays_of (get (codes "relay") d)) _ subnet g in
     let pools = came_from (list_of 64 (kea_pool known) (get (codes "pools") d) >>= parts_of_all) _ subnet relays.gives in
-    let hosts = came_from (list_of 4096 (kea_reservation known kinds (has_bare_names bare d)) (get (codes "reservations") d)) _ subnet pools.gives in
-    let beside = passed (stand_beside outside pools.first hosts.first) _ subnet hosts.gives in
+    let hosts = came_from (list_of 4096 (kea_reservation known within.kinds within.bare) (get (codes "reservations") d)) _ subnet pools.gives in
+    let beside = passed (stand_beside within.outside pools.first hosts.first) _ subnet hosts.gives in
+    let of_kinds = subst (λ (k : HostKinds). list_of 4096 (kea_reservation known k within.bare) (get (codes "reservations") d) ≡ Some hosts.first) same_kinds hosts.is in
+    let of_both = subst (λ (b : Bool). list_of 4096 (kea_reservation known kinds b) (get (codes "reservations") d) ≡ Some hosts.first) same_bare of_kinds in
     let all_right : kea_beside given kinds bare known d ≡ Some true =
     bind_is given other _ true e
-    (bind_is (flag_or other (get (codes "reservations-out-of-pool") d)) outside _ true f
+    (bind_is (flag_or other (get (codes "reservations-out-of-pool") d)) within.outside _ true f
     (bind_is (list_of 64 (kea_pool known) (get (codes "pools") d) >>= parts_of_all) pools.first _ true pools.is
-    (bind_is (list_of 4096 (kea_reservation known kinds (has_bare_names bare d)) (get (codes "reservations") d)) hosts.first _ true hosts.is
+    (bind_is (list_of 4096 (kea_reservation known kinds (has_bare_names bare d)) (get (codes "reservations") d)) hosts.first _ true of_both
     (ap Some beside.0)))) in
     unless_none (is_not_failed (kea_beside given kinds bare known d)) Unknown path (codes "reservations-out-of-pool") (ap is_not_failed all_right)
 
@@ -339,27 +374,32 @@ subnet_pass above around fits known d subnet path e =
     let prefix = came_from (get (codes "subnet") d >>= subnet_prefix) _ subnet given.gives in
     let link = passed (is_at_server above.server prefix.first (get (codes "interface") d)) _ subnet prefix.gives in
     let class = came_from (text_if_given (get (codes "client-class") d)) _ subnet link.1 in
-    let outside = came_from (flag_or above.outside (get (codes "reservations-out-of-pool") d)) _ subnet class.gives in
+    let within = came_from (above_within above d) _ subnet class.gives in
+    let inside = within_of above within.first d within.is in
     let bare = has_bare_names around.bare d in
-    let listed = subst (λ (k : HostKinds). kea_subnet_with known k bare outside.first above.boot prefix.first (unless_empty class.first) d ≡ Some subnet) (sym fits.kinds)
-    (subst (λ (b : Bool). kea_subnet_with known above.kinds (has_bare_names b d) outside.first above.boot prefix.first (unless_empty class.first) d ≡ Some subnet) (sym fits.bare) outside.gives) in
-    let lists = subnet_lists_pass known around.kinds bare outside.first above.boot prefix.first (unless_empty class.first) path d subnet listed in
+    let same_kinds = inside.kinds ∙ sym fits.kinds in
+    let same_bare = inside.bare ∙ ap (λ (b : Bool). has_bare_names b d) (sym fits.bare) in
+    let listed = subnet_lists_pass known within.first prefix.first (unless_empty class.first) path d subnet within.gives in
+    let lists = subst (λ (b : Bool). ListsPass known around.kinds b path d) same_bare (subst (λ (k : HostKinds). ListsPass known k within.first.bare path d) same_kinds listed) in
     let keyed = own_notes subnet_keys path d in
     let values = subnet_values around path d in
+    let own_times = subnet_times around.keys path d in
     let own = subnet_own path d in
     let options = option_notes false known path d in
     let pools = listed_notes 64 (pool_notes known) (codes "pools") path d in
     let hosts = listed_notes 4096 (host_notes known around.kinds bare) (codes "reservations") path d in
     let relay = notes_at relay_notes path (codes "relay") d in
     let beside = beside_note around.outside around.kinds around.bare known path d in
-    object_none (kea_below (above_by around) known d) tt path d (keyed ++ values ++ own ++ beside ++ (options ++ pools ++ hosts ++ relay))
+    object_none (kea_below (above_by around) known d) tt path d (keyed ++ values ++ own_times ++ own ++ beside ++ (options ++ pools ++ hosts ++ relay))
     (below_known (above_by around) above known d subnet (above_known above around fits) e) (is_object subnet_keys d form.keys)
-    (none_in_both (keyed ++ values ++ own ++ beside) (options ++ pools ++ hosts ++ relay)
-    (none_in_both (keyed ++ values ++ own) beside
-    (none_in_both (keyed ++ values) own
-    (none_in_both keyed values (own_pass subnet_keys path d form.keys) (subnet_values_pass above around fits path d prefix.first form.times form.policy prefix.is link.0))
-    (subnet_own_pass above path d prefix.first class.first outside.first form prefix.is class.is outside.is lists.boot))
-    (beside_pass around.outside around.kinds above.outside around.bare known outside.first above.boot prefix.first (unless_empty class.first) path d subnet fits.outside outside.is listed))
+    (none_in_both (keyed ++ values ++ own_times ++ own ++ beside) (options ++ pools ++ hosts ++ relay)
+    (none_in_both (keyed ++ values ++ own_times ++ own) beside
+    (none_in_both (keyed ++ values ++ own_times) own
+    (none_in_both (keyed ++ values) own_times
+    (none_in_both keyed values (own_pass subnet_keys path d form.keys) (subnet_values_pass above around fits path d prefix.first form.policy prefix.is link.0))
+    (subnet_times_pass around.keys above.keys within.first.keys path d fits.keys inside.keys))
+    (subnet_own_pass above path d prefix.first class.first within.first.outside form prefix.is class.is inside.outside (inside.noted path)))
+    (beside_pass around.outside around.kinds above.outside around.bare known within.first prefix.first (unless_empty class.first) path d subnet fits.outside inside.outside same_kinds same_bare within.gives))
     (none_in_both (options ++ pools ++ hosts) relay
     (none_in_both (options ++ pools) hosts
     (none_in_both options pools lists.options lists.pools)
@@ -371,7 +411,6 @@ subnet_pass above around fits known d subnet path e =
 -- what a value with the form of a network has
 record HasNetworkForm (above : Above) (d : Data) : Type 0 where
   keys : keys_are_read network_keys d ≡ true
-  times : repeats_times above.calculated above.shares above.times d ≡ Some tt
   policy : repeats_policy above.policy d ≡ true
   name : is_some (get (codes "name") d >>= as_str) ≡ true
 
@@ -379,9 +418,8 @@ network_form : (above : Above) (d : Data) → has_network_form above d ≡ Some 
 unfolding has_network_form
 network_form above d e =
     let keys = passed (keys_are_read network_keys d) _ tt e in
-    let times = came_from (repeats_times above.calculated above.shares above.times d) _ tt keys.1 in
-    let policy = passed (repeats_policy above.policy d) _ tt times.gives in
-    record { keys = keys.0; times = times.is; policy = policy.0; name = must_hold (is_some (get (codes "name") d >>= as_str)) policy.1 }
+    let policy = passed (repeats_policy above.policy d) _ tt keys.1 in
+    record { keys = keys.0; policy = policy.0; name = must_hold (is_some (get (codes "name") d >>= as_str)) policy.1 }
 
 -- the prefix of a member is the one that its value gives
 member_prefix : (above : Above) (known : List Definition) (common : Common) (d : Data) (member : Subnet) → kea_member above known common d ≡ Some member → prefix_given d ≡ Some member.prefix
@@ -392,17 +430,15 @@ member_prefix above known common d member e =
     let prefix = came_from (prefix_given d) _ subnet.first form.gives in
     let link = passed (is_at_server above.server prefix.first (get (codes "interface") d)) _ subnet.first prefix.gives in
     let class = came_from (text_if_given (get (codes "client-class") d)) _ subnet.first link.1 in
-    let outside = came_from (flag_or above.outside (get (codes "reservations-out-of-pool") d)) _ subnet.first class.gives in
-    let bare = has_bare_names above.bare d in
-    let relays = came_from (relays_of (get (codes "relay") d)) _ subnet.first outside.gives in
+    let within = came_from (above_within above d) _ subnet.first class.gives in
+    let relays = came_from (relays_of (get (codes "relay") d)) _ subnet.first within.gives in
     let pools = came_from (list_of 64 (kea_pool known) (get (codes "pools") d) >>= parts_of_all) _ subnet.first relays.gives in
-    let hosts = came_from (list_of 4096 (kea_reservation known above.kinds bare) (get (codes "reservations") d)) _ subnet.first pools.gives in
-    let beside = passed (stand_beside outside.first pools.first hosts.first) _ subnet.first hosts.gives in
+    let hosts = came_from (list_of 4096 (kea_reservation known within.first.kinds within.first.bare) (get (codes "reservations") d)) _ subnet.first pools.gives in
+    let beside = passed (stand_beside within.first.outside pools.first hosts.first) _ subnet.first hosts.gives in
     let options = came_from (kea_options false known (get (codes "option-data") d)) _ subnet.first beside.1 in
-    let boot = came_from (kea_boot d) _ subnet.first options.gives in
     let own = came_from (one_class subnet.first.class common.class) _ member subnet.gives in
     let may = passed (may_be_of own.first subnet.first.pools subnet.first.reservations) _ member own.gives in
-    prefix.is ∙ (ap (λ (s : Subnet). Some s.prefix) (some_is _ subnet.first boot.gives) ∙ ap (λ (s : Subnet). Some s.prefix) (some_is _ member may.1))
+    prefix.is ∙ (ap (λ (s : Subnet). Some s.prefix) (some_is _ subnet.first options.gives) ∙ ap (λ (s : Subnet). Some s.prefix) (some_is _ member may.1))
 
 member_prefixes : (above : Above) (known : List Definition) (common : Common) (items : Items) (members : List Subnet) → all_of (kea_member above known common) items ≡ Some members → all_of prefix_given items ≡ Some (map (λ (s : Subnet). s.prefix) members)
 member_prefixes above known common no_items members e = ap (λ (xs : List Subnet). Some (map (λ (s : Subnet). s.prefix) xs)) (some_is [] members e)
@@ -440,11 +476,11 @@ inside_pass given server inner known common path d members e f g =
     subst (λ (o : Option ℕ). have_refused (inside_notes o path d) ≡ false) (sym e)
     (inside_pass_by server path d prefixes (listed_prefixes inner known common (get (codes "subnet4") d) members f) inside)
 
-network_values_pass : (above : Above) (around : Around) → Fits above around → (path : List ℕ) (d : Data) → repeats_times above.calculated above.shares above.times d ≡ Some tt → repeats_policy above.policy d ≡ true → have_refused (inside_notes around.address path d) ≡ false
+network_values_pass : (above : Above) (around : Around) → Fits above around → (path : List ℕ) (d : Data) → repeats_policy above.policy d ≡ true → have_refused (inside_notes around.address path d) ≡ false
     → have_refused (network_values around path d) ≡ false
 unfolding network_values
-network_values_pass above around fits path d e same inside =
-    none_in_both (inherited_notes around path d) (inside_notes around.address path d) (inherited_pass above around fits path d e same) inside
+network_values_pass above around fits path d same inside =
+    none_in_both (policy_notes around.policy path d) (inside_notes around.address path d) (policy_pass around.policy above.policy path d fits.policy same) inside
 
 network_own_pass : (path : List ℕ) (d : Data) (other outside : Bool) → is_some (get (codes "name") d >>= as_str) ≡ true → is_some (text_if_given (get (codes "client-class") d)) ≡ true → flag_or other (get (codes "reservations-out-of-pool") d) ≡ Some outside → have_refused (boot_notes path d) ≡ false
     → have_refused (network_own path d) ≡ false
@@ -462,22 +498,19 @@ network_own_pass path d other outside e f g boot =
     boot
 
 -- what holds above the members of a network is known of each part
-members_fit : (above : Above) (around : Around) → Fits above around → (d : Data) (outside : Bool) (boot : Boot) → flag_or above.outside (get (codes "reservations-out-of-pool") d) ≡ Some outside → kea_boot d ≡ Some boot → Fits (above_members above outside boot d) (around_members around d)
-unfolding around_members outside_in boot_in
-members_fit above around fits d outside boot e f =
+members_fit : (above within : Above) (around : Around) → Fits above around → (d : Data) → Within above within d → Fits within (around_members around d)
+unfolding around_members keys_in_network outside_in
+members_fit above within around fits d inside =
     record {
-      address = fits.address;
-      times = fits.times;
-      outside = bind_is around.outside above.outside (λ (b : Bool). flag_or b (get (codes "reservations-out-of-pool") d)) outside fits.outside e;
-      kinds = fits.kinds;
-      bare = ap (λ (b : Bool). has_bare_names b d) fits.bare;
-      policy = fits.policy;
-      boot = bind_is around.boot above.boot _ (boot_or boot above.boot) fits.boot (bind_is (kea_boot d) boot _ (boot_or boot above.boot) f refl);
-      calculated = fits.calculated;
-      shares = fits.shares;
-      lifetime = fits.lifetime;
-      renew = fits.renew;
-      rebind = fits.rebind;
+      address = fits.address ∙ ap Some (sym inside.server);
+      times = fits.times ∙ ap Some (sym inside.times);
+      keys = bind_is around.keys above.keys (λ (k : TermKeys). kea_keys k d) within.keys fits.keys inside.keys;
+      by_class = fits.by_class ∙ sym inside.by_class;
+      outside = bind_is around.outside above.outside (λ (b : Bool). flag_or b (get (codes "reservations-out-of-pool") d)) within.outside fits.outside inside.outside;
+      kinds = fits.kinds ∙ sym inside.kinds;
+      bare = ap (λ (b : Bool). has_bare_names b d) fits.bare ∙ sym inside.bare;
+      policy = fits.policy ∙ ap Some (sym inside.policy);
+      boot = subst (λ (o : Option Boot). boot_in o d ≡ Some within.boot) (sym fits.boot) inside.boot;
     }
 
 member_pass : (above : Above) (around : Around) → Fits above around → (known : List Definition) (common : Common) → NoneRefused (kea_member above known common) (subnet_notes around known)
@@ -514,27 +547,30 @@ network_pass above around fits known d members path e =
     let given = came_from (has_network_form above d) _ members e in
     let form = network_form above d given.is in
     let common = came_from (kea_common known d) _ members given.gives in
-    let outside = came_from (flag_or above.outside (get (codes "reservations-out-of-pool") d)) _ members common.gives in
-    let boot = came_from (kea_boot d) _ members outside.gives in
-    let inner = above_members above outside.first boot.first d in
+    let within = came_from (above_within above d) _ members common.gives in
+    let inside_of = within_of above within.first d within.is in
+    let inner = within.first in
     let inner_around = around_members around d in
-    let read = came_from (list_of 64 (kea_member inner known common.first) (get (codes "subnet4") d)) _ members boot.gives in
+    let read = came_from (list_of 64 (kea_member inner known common.first) (get (codes "subnet4") d)) _ members within.gives in
     let here = passed (is_interface_of (is_in_one_of read.first above.server) (get (codes "interface") d)) _ members read.gives in
     let shared = common_pass known path d common.first common.is in
     let keyed = own_notes network_keys path d in
     let values = network_values around path d in
+    let own_times = term_notes 0 around.keys path d in
     let own = network_own path d in
     let options = option_notes false known path d in
     let listed = listed_notes 64 (subnet_notes inner_around known) (codes "subnet4") path d in
     let relay = notes_at relay_notes path (codes "relay") d in
     let inside = inside_pass around.address above.server inner known common.first path d read.first fits.address read.is here.0 in
-    let each = member_pass inner inner_around (members_fit above around fits d outside.first boot.first outside.is boot.is) known common.first in
-    object_none (network_below (above_by around) known d) tt path d (keyed ++ values ++ own ++ (options ++ listed ++ relay))
+    let each = member_pass inner inner_around (members_fit above within.first around fits d inside_of) known common.first in
+    object_none (network_below (above_by around) known d) tt path d (keyed ++ values ++ own_times ++ own ++ (options ++ listed ++ relay))
     (network_known (above_by around) above known d members (above_known above around fits) e) (is_object network_keys d form.keys)
-    (none_in_both (keyed ++ values ++ own) (options ++ listed ++ relay)
-    (none_in_both (keyed ++ values) own
-    (none_in_both keyed values (own_pass network_keys path d form.keys) (network_values_pass above around fits path d form.times form.policy inside))
-    (network_own_pass path d above.outside outside.first form.name shared.class outside.is (boot_pass path d boot.first boot.is)))
+    (none_in_both (keyed ++ values ++ own_times ++ own) (options ++ listed ++ relay)
+    (none_in_both (keyed ++ values ++ own_times) own
+    (none_in_both (keyed ++ values) own_times
+    (none_in_both keyed values (own_pass network_keys path d form.keys) (network_values_pass above around fits path d form.policy inside))
+    (term_pass around.keys above.keys within.first.keys path d fits.keys inside_of.keys))
+    (network_own_pass path d above.outside within.first.outside form.name shared.class inside_of.outside (inside_of.noted path)))
     (none_in_both (options ++ listed) relay
     (none_in_both options listed shared.options
     (listed_pass 64 (kea_member inner known common.first) (subnet_notes inner_around known) each (codes "subnet4") path d read.first read.is))
@@ -590,25 +626,24 @@ server_pass : (server : Option ℕ) → NoneRefused (kea_dhcp4 server) (server_n
 unfolding kea_dhcp4 server_notes server_lists lists_by all_times
 server_pass server d settings path e =
     let given = came_from (has_server_form d) _ settings e in
-    let calculated = came_from (flag_given (get (codes "calculate-tee-times") d)) _ settings given.gives in
-    let shares = passed (has_usual_shares calculated.first d) _ settings calculated.gives in
-    let times = came_from (kea_times calculated.first d) _ settings shares.1 in
+    let keys = came_from (kea_keys usual_keys d) _ settings given.gives in
+    let times = came_from (kea_times keys.first d) _ settings keys.gives in
     let outside = came_from (flag_given (get (codes "reservations-out-of-pool") d)) _ settings times.gives in
     let policy = came_from (kea_policy d) _ settings outside.gives in
     let boot = came_from (kea_boot d) _ settings policy.gives in
     let known = came_from (kea_known (get (codes "option-def") d)) _ settings boot.gives in
     let options = came_from (kea_options true known.first (get (codes "option-data") d)) _ settings known.gives in
     let address = came_from (server_address options.first server) _ settings options.gives in
-    let above : Above = record { server = address.first; times = times.first; calculated = calculated.first; shares = shares_given d; outside = outside.first; kinds = kinds_given (get (codes "host-reservation-identifiers") d); bare = server_has_bare_names d; policy = policy.first; boot = boot.first } in
+    let above : Above = record { server = address.first; times = times.first; keys = keys.first; by_class = has_class_lifetime d; outside = outside.first; kinds = kinds_given (get (codes "host-reservation-identifiers") d); bare = server_has_bare_names d; policy = policy.first; boot = boot.first } in
     let around = around_of server d in
     let fits = around_fits server d above
     (address_known server d known.first options.first address.first known.is options.is address.is)
-    (bind_is (flag_given (get (codes "calculate-tee-times") d)) calculated.first (λ (b : Bool). kea_times b d) times.first calculated.is times.is)
-    (times_known d calculated.first times.first calculated.is times.is) calculated.is outside.is refl refl refl policy.is boot.is in
+    (bind_is (kea_keys usual_keys d) keys.first (λ (k : TermKeys). kea_times k d) times.first keys.is times.is)
+    keys.is refl outside.is refl refl policy.is boot.is in
     let lists = lists_pass known.first options.first above around fits path d settings address.gives in
     let form = form_of d given.is in
     let keyed = own_notes server_keys path d in
-    let values = server_values path d in
+    let values = service_notes path d in
     let own_times = server_times path d in
     let flags = server_flags path d in
     let definitions = definition_notes false path d in
@@ -625,8 +660,8 @@ server_pass server d settings path e =
     (none_in_both (keyed ++ values ++ own_times ++ flags) (ServerLists around (usable_definitions d) path d)
     (none_in_both (keyed ++ values ++ own_times) flags
     (none_in_both (keyed ++ values) own_times
-    (none_in_both keyed values (own_pass server_keys path d form.keys) (server_values_pass path d calculated.first form calculated.is shares.0))
-    (server_times_pass path d calculated.first times.first calculated.is times.is))
+    (none_in_both keyed values (own_pass server_keys path d form.keys) (services_pass path d form))
+    (server_times_pass path d keys.first times.first keys.is times.is))
     (flags_pass path d outside.first policy.first boot.first outside.is policy.is boot.is))
     (subst (λ (its : List Definition). have_refused (ServerLists around its path d) ≡ false) (sym (known_same d known.first known.is)) all_lists))
 
@@ -676,7 +711,7 @@ unfolding class_notes
 class_noted known path d e =
     let of_name = note_unless (is_some (get (codes "name") d >>= class_name_in)) Wrong path (codes "name") in
     nothing_noted (kea_class known d) path d
-    (own_notes class_keys path d ++ of_name ++ text_note (codes "test") path d ++ boot_notes path d ++ definition_notes true path d ++ option_notes false (right_definitions true d ++ known) path d) e
+    (own_notes class_keys path d ++ of_name ++ text_note (codes "test") path d ++ boot_notes path d ++ class_lifetime_notes path d ++ definition_notes true path d ++ option_notes false (right_definitions true d ++ known) path d) e
 
 pub pool_noted : (known : List Definition) (path : List ℕ) (d : Data) → kea_pool known d ≡ None → have_refused (pool_notes known path d) ≡ true
 unfolding pool_notes

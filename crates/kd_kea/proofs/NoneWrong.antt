@@ -11,34 +11,36 @@ use Rattle.kd_config.specs.declared.prefix.Prefix.{Prefix}
 use Rattle.kd_config.specs.declared.subnet.Subnet.{Subnet}
 use Rattle.kd_config.specs.declared.times.Times.{Times}
 use Rattle.kd_classes.specs.declared.boot.Boot.{Boot}
+use Rattle.kd_classes.specs.declared.lifetime.Lifetime.{Lifetime}
 use Rattle.kd_classes.specs.declared.option_list.OptionData.{OptionData}
-use Rattle.kd_json.proofs.Came.{came_from, passed}
+use Rattle.kd_json.proofs.Came.{came_from, passed, passed_only, seen_from}
 use Rattle.kd_json.specs.FirstFault.{path_below}
 use Rattle.kd_json.specs.Steps.{must}
 use Rattle.kd_json.specs.Subnet.{subnet_prefix}
-use Rattle.kd_json.specs.Values.{number_if_given}
+use Rattle.kd_json.specs.Values.{number_if_given, number_within}
 use Rattle.kd_kea.specs.Boot.{field_given, kea_boot, next_server_given, own_boot}
 use Rattle.kd_kea.specs.Definitions.{kea_known}
 use Rattle.kd_kea.specs.HostKinds.{finds_reservations, kinds_given}
 use Rattle.kd_kea.specs.HostName.{server_has_bare_names}
 use Rattle.kd_kea.specs.Hooks.{hooks_are_quiet}
-use Rattle.kd_kea.specs.Keys.{KeyUse, Plain, each_key, flag, fraction, has_only_keys, is_plain, key_use, keys_are_read, allows_value, no_list, served, skipped, usual, whole}
-use Rattle.kd_kea.specs.Notes.{KeyNote, above_by, around_of, boot_notes, calculated_notes, flag_note, have_refused, hook_kind, hook_notes, inherited_notes, interface_notes, kea_address, kea_below, key_notes, keys_in, kind_of_note, lease_notes, lifetime_in, limit_notes, member_keys, note_below, note_unless, notes_at, number_note, object_notes, off_note, off_notes, or_wrong, own_notes, policy_notes, rebind_in, renew_in, repeated_notes, repeated_shares, server_times, server_values, service_notes, share_notes, subnet_values, time_note, all_times, unused_share, unused_shares, usual_note, value_notes}
+use Rattle.kd_kea.specs.Keys.{KeyUse, Plain, each_key, flag, fraction, has_only_keys, is_plain, key_use, keys_are_read, allows_value, no_list, served, skipped, usual}
+use Rattle.kd_kea.specs.Lifetimes.{bound_key, class_lifetime, go_together, has_class_lifetime, is_in_bounds, kea_keys, keys_given, lifetime_of, seconds_or_above, timer_key, timers_rise, usual_keys}
+use Rattle.kd_kea.specs.Notes.{KeyNote, above_by, around_of, boot_notes, class_lifetime_notes, flag_note, have_refused, hook_kind, hook_notes, interface_notes, is_above_least, is_below_most, kea_address, kea_below, key_notes, keys_below, keys_in, kind_of_note, lifetime_notes, member_keys, note_below, note_unless, notes_at, number_note, object_notes, off_note, off_notes, or_wrong, order_notes, own_notes, policy_notes, server_times, service_notes, share_notes, subnet_times, subnet_values, all_times, term_notes, timer_notes, unused_share, unused_shares, usual_note, value_notes}
 use Rattle.kd_kea.specs.Options.{kea_options, server_address}
 use Rattle.kd_kea.specs.Policy.{kea_policy, repeats_policy}
 use Rattle.kd_kea.specs.Settings.{has_server_form, turns_nothing_on}
 use Rattle.kd_kea.specs.Subnet.{is_at_server, kea_subnet}
 use Rattle.kd_kea.specs.Tables.{server_keys}
-use Rattle.kd_kea.specs.Times.{are_in_order, are_shares, share_key, times_key, has_one_lifetime, has_usual_shares, is_asked_for, kea_times, repeats_shares, repeats_times, shares_given, usual_rebind, usual_renew}
+use Rattle.kd_kea.specs.Times.{are_in_order, has_usual_shares, is_asked_for, kea_times, share_key, times_key, usual_rebind, usual_renew}
 use Rattle.kd_kea.specs.Values.{flag_given, flag_or, is_plain_if_given}
 use Rattle.kd_kea.specs.declared.notes.NoteKind.{NoteKind}
 use Rattle.kd_kea.specs.declared.notes.NoteKind.TheVariants.{Skipped, Unknown, Wrong}
 use Rattle.kd_kea.specs.declared.notes.around.Around.{Around}
 use Rattle.kd_kea.specs.declared.objects.definition.Definition.{Definition}
 use Rattle.kd_kea.specs.declared.objects.host_kinds.HostKinds.{HostKinds}
+use Rattle.kd_kea.specs.declared.objects.lifetimes.TermKeys.{TermKeys}
 use Rattle.kd_kea.specs.declared.objects.policy.Policy.{Policy}
 use Rattle.kd_kea.specs.declared.objects.subnet.Above.{Above}
-use Rattle.kd_kea.specs.declared.objects.times.Shares.{Shares}
 use Rattle.kd_kea.specs.declared.objects.times.TheConstants.{HALF, SEVEN_EIGHTHS}
 use Rattle.kd_wire.specs.Steps.{◌>>=◌}
 
@@ -125,37 +127,13 @@ unused_pass path d =
     (share_pass (fraction HALF) (path_below path (codes "t1-percent")) (get (codes "t1-percent") d))
     (share_pass (fraction SEVEN_EIGHTHS) (path_below path (codes "t2-percent")) (get (codes "t2-percent") d))
 
-pub shares_pass_if : (calculated : Bool) (path : List ℕ) (d : Data) → has_usual_shares calculated d ≡ true → have_refused (share_notes (Some calculated) path d) ≡ false
-shares_pass_if true path d e = unless_none (are_shares (shares_given d)) Wrong path (share_key d) e
-shares_pass_if false path d e = unused_pass path d
-
-pub shares_pass : (given : Option Bool) (calculated : Bool) (path : List ℕ) (d : Data) → given ≡ Some calculated → has_usual_shares calculated d ≡ true → have_refused (share_notes given path d) ≡ false
-shares_pass given calculated path d e f =
-    subst (λ (o : Option Bool). have_refused (share_notes o path d) ≡ false) (sym e) (shares_pass_if calculated path d f)
-
-pub repeated_pass_if : (calculated : Bool) (shares : Shares) (path : List ℕ) (d : Data) → repeats_shares calculated shares d ≡ true → have_refused (repeated_shares (Some calculated) shares path d) ≡ false
-repeated_pass_if true shares path d e =
-    let both = both_passed (is_plain_if_given (fraction shares.renew) (get (codes "t1-percent") d)) (is_plain_if_given (fraction shares.rebind) (get (codes "t2-percent") d)) e in
-    none_in_both (usual_note (fraction shares.renew) path (codes "t1-percent") d) (usual_note (fraction shares.rebind) path (codes "t2-percent") d)
-    (usual_pass (fraction shares.renew) path (codes "t1-percent") d both.0)
-    (usual_pass (fraction shares.rebind) path (codes "t2-percent") d both.1)
-repeated_pass_if false shares path d e = unused_pass path d
-
-pub shares_known : (given : Option Bool) (calculated : Bool) (noted shares : Shares) (path : List ℕ) (d : Data) → given ≡ Some calculated → noted ≡ shares → repeats_shares calculated shares d ≡ true → have_refused (repeated_shares given noted path d) ≡ false
-shares_known given calculated noted shares path d e f g =
-    subst (λ (o : Option Bool). have_refused (repeated_shares o noted path d) ≡ false) (sym e)
-    (subst (λ (s : Shares). have_refused (repeated_shares (Some calculated) s path d) ≡ false) (sym f) (repeated_pass_if calculated shares path d g))
-
-pub time_pass : (given : Option ℕ) (time : ℕ) (key path : List ℕ) (d : Data) → given ≡ Some time → is_plain_if_given (whole time) (get key d) ≡ true → have_refused (time_note given key path d) ≡ false
-time_pass given time key path d e f =
-    subst (λ (o : Option ℕ). have_refused (time_note o key path d) ≡ false) (sym e) (usual_pass (whole time) path key d f)
-
-pub limits_pass : (given : Option ℕ) (lifetime : ℕ) (path : List ℕ) (d : Data) → given ≡ Some lifetime → has_one_lifetime lifetime d ≡ true → have_refused (limit_notes given path d) ≡ false
-limits_pass given lifetime path d e f =
-    let both = both_passed (is_plain_if_given (whole lifetime) (get (codes "min-valid-lifetime") d)) (is_plain_if_given (whole lifetime) (get (codes "max-valid-lifetime") d)) f in
-    none_in_both (time_note given (codes "min-valid-lifetime") path d) (time_note given (codes "max-valid-lifetime") path d)
-    (time_pass given lifetime (codes "min-valid-lifetime") path d e both.0)
-    (time_pass given lifetime (codes "max-valid-lifetime") path d e both.1)
+-- the shares of a subnet are not refused where they are not used
+pub shares_pass : (given : Option TermKeys) (path : List ℕ) (d : Data) → have_refused (share_notes given path d) ≡ false
+shares_pass None path d = refl
+shares_pass (Some keys) path d = by keys.calculated where
+  by : (b : Bool) → have_refused (if b then [] else unused_shares path d) ≡ false
+  by true = refl
+  by false = unused_pass path d
 
 -- what is described is not wrong
 pub right : {A : Type 0} (o : Option A) (a : A) (path key : List ℕ) → o ≡ Some a → have_refused (note_unless (is_some o) Wrong path key) ≡ false
@@ -251,46 +229,159 @@ services_pass path d form =
     (unless_none (finds_reservations (get (codes "host-reservation-identifiers") d)) Unknown path (codes "host-reservation-identifiers") form.identifiers))
     (hook_pass (path_below path (codes "hooks-libraries")) (get (codes "hooks-libraries") d) form.hooks)
 
-pub server_values_pass : (path : List ℕ) (d : Data) (calculated : Bool) → HasForm d → flag_given (get (codes "calculate-tee-times") d) ≡ Some calculated → has_usual_shares calculated d ≡ true → have_refused (server_values path d) ≡ false
-unfolding server_values
-server_values_pass path d calculated form given shares =
-    let of_shares = share_notes (flag_given (get (codes "calculate-tee-times") d)) path d in
-    none_in_both (service_notes path d) of_shares (services_pass path d form)
-    (shares_pass (flag_given (get (codes "calculate-tee-times") d)) calculated path d given shares)
-
 pub bind_is : {A B : Type 0} (o : Option A) (a : A) (f : A → Option B) (b : B) → o ≡ Some a → f a ≡ Some b → (o >>= f) ≡ Some b
 bind_is o a f b e g = subst (λ x. (x >>= f) ≡ Some b) (sym e) g
 
-pub server_times_pass : (path : List ℕ) (d : Data) (calculated : Bool) (times : Times) → flag_given (get (codes "calculate-tee-times") d) ≡ Some calculated → kea_times calculated d ≡ Some times → have_refused (server_times path d) ≡ false
-unfolding server_times lease_notes all_times kea_times
-server_times_pass path d calculated times given e =
-    let lifetime = came_from (lifetime_in d) _ times e in
-    let one = passed (has_one_lifetime lifetime.first d) _ times lifetime.gives in
-    let renew = came_from (number_if_given 1 longest_lease (usual_renew calculated (shares_given d) lifetime.first) (get (codes "renew-timer") d)) _ times one.1 in
-    let rebind = came_from (number_if_given 1 longest_lease (usual_rebind calculated (shares_given d) lifetime.first) (get (codes "rebind-timer") d)) _ times renew.gives in
-    let order = passed (are_in_order (is_asked_for calculated (get (codes "renew-timer") d)) (is_asked_for calculated (get (codes "rebind-timer") d)) renew.first rebind.first lifetime.first) _ times rebind.gives in
+-- ---- the times of leases
+
+-- a number that is right without one above it is right
+pub seconds_right : (least : ℕ) (above : Option ℕ) (value : Option Data) (n : Option ℕ) → seconds_or_above least above value ≡ Some n → is_some (number_if_given least longest_lease least value) ≡ true
+seconds_right least above None n e = refl
+seconds_right least above (Some d) n e =
+    let seen = seen_from Some (number_within least longest_lease d) n e in ap is_some seen.1
+
+pub seconds_pass : (least : ℕ) (above : Option ℕ) (key path : List ℕ) (d : Data) (n : Option ℕ) → seconds_or_above least above (get key d) ≡ Some n → have_refused (number_note least longest_lease key path d) ≡ false
+seconds_pass least above key path d n e =
+    unless_none (is_some (number_if_given least longest_lease least (get key d))) Wrong path key (seconds_right least above (get key d) n e)
+
+-- the keys of a value are right by themselves
+record RightKeys (path : List ℕ) (d : Data) : Type 0 where
+  lifetime : have_refused (lifetime_notes path d) ≡ false
+  timers : have_refused (timer_notes 0 path d) ≡ false
+  flag : have_refused (flag_note (codes "calculate-tee-times") path d) ≡ false
+
+keys_right : (above : TermKeys) (path : List ℕ) (d : Data) (keys : TermKeys) → keys_given above d ≡ Some keys → RightKeys path d
+unfolding keys_given lifetime_notes timer_notes
+keys_right above path d keys e =
+    let usual = came_from (number_if_given 1 longest_lease above.usual (get (codes "valid-lifetime") d)) _ keys e in
+    let least = came_from (seconds_or_above 1 above.least (get (codes "min-valid-lifetime") d)) _ keys usual.gives in
+    let most = came_from (seconds_or_above 1 above.most (get (codes "max-valid-lifetime") d)) _ keys least.gives in
+    let renew = came_from (seconds_or_above 0 above.renew (get (codes "renew-timer") d)) _ keys most.gives in
+    let rebind = came_from (seconds_or_above 0 above.rebind (get (codes "rebind-timer") d)) _ keys renew.gives in
+    let calculated = came_from (flag_or above.calculated (get (codes "calculate-tee-times") d)) _ keys rebind.gives in
+    let of_usual = number_note 1 longest_lease (codes "valid-lifetime") path d in
+    let of_least = number_note 1 longest_lease (codes "min-valid-lifetime") path d in
+    let of_most = number_note 1 longest_lease (codes "max-valid-lifetime") path d in
+    let of_renew = number_note 0 longest_lease (codes "renew-timer") path d in
+    let of_rebind = number_note 0 longest_lease (codes "rebind-timer") path d in
+    let of_flag = flag_note (codes "calculate-tee-times") path d in
+    let flag_pass = unless_none (is_some (flag_given (get (codes "calculate-tee-times") d))) Wrong path (codes "calculate-tee-times") (flag_right above.calculated (get (codes "calculate-tee-times") d) calculated.first calculated.is) in
+    record {
+      lifetime =
+          none_in_both (of_usual ++ of_least) of_most
+          (none_in_both of_usual of_least
+          (number_pass 1 longest_lease above.usual (codes "valid-lifetime") path d usual.first usual.is)
+          (seconds_pass 1 above.least (codes "min-valid-lifetime") path d least.first least.is))
+          (seconds_pass 1 above.most (codes "max-valid-lifetime") path d most.first most.is);
+      timers =
+          none_in_both (of_renew ++ of_rebind) of_flag
+          (none_in_both of_renew of_rebind
+          (seconds_pass 0 above.renew (codes "renew-timer") path d renew.first renew.is)
+          (seconds_pass 0 above.rebind (codes "rebind-timer") path d rebind.first rebind.is))
+          flag_pass;
+      flag = flag_pass;
+    }
+
+-- keys that go together have no note on their order
+order_pass_if : (keys : TermKeys) (path : List ℕ) (d : Data) → go_together keys ≡ true → have_refused (order_notes (Some keys) path d) ≡ false
+unfolding order_notes
+order_pass_if keys path d e =
+    let outer = both_passed (is_in_bounds (lifetime_of keys) && timers_rise keys.renew keys.rebind) (has_usual_shares keys.calculated keys.shares) e in
+    let inner = both_passed (is_in_bounds (lifetime_of keys)) (timers_rise keys.renew keys.rebind) outer.0 in
+    let bounds = both_passed (is_above_least keys) (is_below_most keys) inner.0 in
+    let of_least = note_unless (is_above_least keys) Wrong path (bound_key (codes "min-valid-lifetime") d) in
+    let of_most = note_unless (is_below_most keys) Wrong path (bound_key (codes "max-valid-lifetime") d) in
+    let of_timers = note_unless (timers_rise keys.renew keys.rebind) Wrong path (timer_key d) in
+    let of_shares = note_unless (has_usual_shares keys.calculated keys.shares) Wrong path (share_key d) in
+    none_in_both (of_least ++ of_most ++ of_timers) of_shares
+    (none_in_both (of_least ++ of_most) of_timers
+    (none_in_both of_least of_most
+    (unless_none (is_above_least keys) Wrong path (bound_key (codes "min-valid-lifetime") d) bounds.0)
+    (unless_none (is_below_most keys) Wrong path (bound_key (codes "max-valid-lifetime") d) bounds.1))
+    (unless_none (timers_rise keys.renew keys.rebind) Wrong path (timer_key d) inner.1))
+    (unless_none (has_usual_shares keys.calculated keys.shares) Wrong path (share_key d) outer.1)
+
+-- what the keys of a value say together, each by itself
+record Given (above : TermKeys) (d : Data) (keys : TermKeys) : Type 0 where
+  is : keys_given above d ≡ Some keys
+  together : go_together keys ≡ true
+
+keys_are_given : (above : TermKeys) (d : Data) (keys : TermKeys) → kea_keys above d ≡ Some keys → Given above d keys
+unfolding kea_keys
+keys_are_given above d keys e =
+    let given = came_from (keys_given above d) _ keys e in
+    let test = passed_only (go_together given.first) given.first keys given.gives in
+    subst (Given above d) test.1 (record { is = given.is; together = test.0 })
+
+order_pass : (above keys : TermKeys) (path : List ℕ) (d : Data) → Given above d keys → have_refused (order_notes (keys_below (Some above) d) path d) ≡ false
+unfolding keys_below
+order_pass above keys path d given =
+    subst (λ (o : Option TermKeys). have_refused (order_notes o path d) ≡ false) (sym given.is) (order_pass_if keys path d given.together)
+
+term_pass_by : (least : ℕ) (above keys : TermKeys) (path : List ℕ) (d : Data) → kea_keys above d ≡ Some keys → have_refused (timer_notes least path d) ≡ false → have_refused (term_notes least (Some above) path d) ≡ false
+unfolding term_notes
+term_pass_by least above keys path d e timers =
+    let given = keys_are_given above d keys e in
+    let right_ones = keys_right above path d keys given.is in
+    none_in_both (lifetime_notes path d ++ timer_notes least path d) (order_notes (keys_below (Some above) d) path d)
+    (none_in_both (lifetime_notes path d) (timer_notes least path d) right_ones.lifetime timers)
+    (order_pass above keys path d given)
+
+-- the times of leases in a subnet or a network
+pub term_pass : (known : Option TermKeys) (above keys : TermKeys) (path : List ℕ) (d : Data) → known ≡ Some above → kea_keys above d ≡ Some keys → have_refused (term_notes 0 known path d) ≡ false
+term_pass known above keys path d e f =
+    let given = keys_are_given above d keys f in
+    let right_ones = keys_right above path d keys given.is in
+    subst (λ (o : Option TermKeys). have_refused (term_notes 0 o path d) ≡ false) (sym e) (term_pass_by 0 above keys path d f right_ones.timers)
+
+pub subnet_times_pass : (known : Option TermKeys) (above keys : TermKeys) (path : List ℕ) (d : Data) → known ≡ Some above → kea_keys above d ≡ Some keys → have_refused (subnet_times known path d) ≡ false
+unfolding subnet_times
+subnet_times_pass known above keys path d e f =
+    none_in_both (term_notes 0 known path d) (share_notes (keys_below known d) path d) (term_pass known above keys path d e f) (shares_pass (keys_below known d) path d)
+
+-- the lifetime of a class
+pub class_lifetime_pass : (path : List ℕ) (d : Data) (lifetime : Option Lifetime) → class_lifetime d ≡ Some lifetime → have_refused (class_lifetime_notes path d) ≡ false
+unfolding class_lifetime class_lifetime_notes lifetime_notes
+class_lifetime_pass path d lifetime e =
+    let usual = came_from (seconds_or_above 1 None (get (codes "valid-lifetime") d)) _ lifetime e in
+    let least = came_from (seconds_or_above 1 None (get (codes "min-valid-lifetime") d)) _ lifetime usual.gives in
+    let most = came_from (seconds_or_above 1 None (get (codes "max-valid-lifetime") d)) _ lifetime least.gives in
+    let of_usual = number_note 1 longest_lease (codes "valid-lifetime") path d in
+    let of_least = number_note 1 longest_lease (codes "min-valid-lifetime") path d in
+    let of_most = number_note 1 longest_lease (codes "max-valid-lifetime") path d in
+    wrong_none (is_some (class_lifetime d)) (path_below path (codes "valid-lifetime")) (of_usual ++ of_least ++ of_most) (ap is_some e)
+    (none_in_both (of_usual ++ of_least) of_most
+    (none_in_both of_usual of_least
+    (seconds_pass 1 None (codes "valid-lifetime") path d usual.first usual.is)
+    (seconds_pass 1 None (codes "min-valid-lifetime") path d least.first least.is))
+    (seconds_pass 1 None (codes "max-valid-lifetime") path d most.first most.is))
+
+-- the times of the whole server
+pub server_times_pass : (path : List ℕ) (d : Data) (keys : TermKeys) (times : Times) → kea_keys usual_keys d ≡ Some keys → kea_times keys d ≡ Some times → have_refused (server_times path d) ≡ false
+unfolding server_times all_times kea_times timer_notes
+server_times_pass path d keys times given e =
+    let renew = came_from (number_if_given 1 longest_lease (usual_renew keys.calculated keys.shares keys.usual) (get (codes "renew-timer") d)) _ times e in
+    let rebind = came_from (number_if_given 1 longest_lease (usual_rebind keys.calculated keys.shares keys.usual) (get (codes "rebind-timer") d)) _ times renew.gives in
+    let order = passed (are_in_order (is_asked_for keys.calculated (get (codes "renew-timer") d)) (is_asked_for keys.calculated (get (codes "rebind-timer") d)) renew.first rebind.first keys.usual) _ times rebind.gives in
     let offer = came_from (number_if_given 0 86400 0 (get (codes "offer-lifetime") d)) _ times order.1 in
     let decline = came_from (number_if_given 1 31536000 86400 (get (codes "decline-probation-period") d)) _ times offer.gives in
-    let of_flag = flag_note (codes "calculate-tee-times") path d in
-    let of_lifetime = number_note 1 longest_lease (codes "valid-lifetime") path d in
-    let of_limits = limit_notes (lifetime_in d) path d in
+    let right_ones = keys_right usual_keys path d keys (keys_are_given usual_keys d keys given).is in
     let of_renew = number_note 1 longest_lease (codes "renew-timer") path d in
     let of_rebind = number_note 1 longest_lease (codes "rebind-timer") path d in
+    let of_flag = flag_note (codes "calculate-tee-times") path d in
+    let of_term = term_notes 1 (Some usual_keys) path d in
     let of_offer = number_note 0 86400 (codes "offer-lifetime") path d in
     let of_decline = number_note 1 31536000 (codes "decline-probation-period") path d in
-    wrong_none (is_some (all_times d)) (path_below path (times_key d)) (of_flag ++ (of_lifetime ++ of_limits ++ of_renew ++ of_rebind) ++ of_offer ++ of_decline)
-    (ap is_some (bind_is (flag_given (get (codes "calculate-tee-times") d)) calculated (λ (b : Bool). kea_times b d) times given e))
-    (none_in_both (of_flag ++ (of_lifetime ++ of_limits ++ of_renew ++ of_rebind) ++ of_offer) of_decline
-    (none_in_both (of_flag ++ (of_lifetime ++ of_limits ++ of_renew ++ of_rebind)) of_offer
-    (none_in_both of_flag (of_lifetime ++ of_limits ++ of_renew ++ of_rebind)
-    (right (flag_given (get (codes "calculate-tee-times") d)) calculated path (codes "calculate-tee-times") given)
-    (none_in_both (of_lifetime ++ of_limits ++ of_renew) of_rebind
-    (none_in_both (of_lifetime ++ of_limits) of_renew
-    (none_in_both of_lifetime of_limits
-    (number_pass 1 longest_lease 7200 (codes "valid-lifetime") path d lifetime.first lifetime.is)
-    (limits_pass (lifetime_in d) lifetime.first path d lifetime.is one.0))
-    (number_pass 1 longest_lease (usual_renew calculated (shares_given d) lifetime.first) (codes "renew-timer") path d renew.first renew.is))
-    (number_pass 1 longest_lease (usual_rebind calculated (shares_given d) lifetime.first) (codes "rebind-timer") path d rebind.first rebind.is)))
+    let timers =
+    none_in_both (of_renew ++ of_rebind) of_flag
+    (none_in_both of_renew of_rebind
+    (number_pass 1 longest_lease (usual_renew keys.calculated keys.shares keys.usual) (codes "renew-timer") path d renew.first renew.is)
+    (number_pass 1 longest_lease (usual_rebind keys.calculated keys.shares keys.usual) (codes "rebind-timer") path d rebind.first rebind.is))
+    right_ones.flag in
+    wrong_none (is_some (all_times d)) (path_below path (times_key d)) (of_term ++ of_offer ++ of_decline)
+    (ap is_some (bind_is (kea_keys usual_keys d) keys (λ (k : TermKeys). kea_times k d) times given e))
+    (none_in_both (of_term ++ of_offer) of_decline
+    (none_in_both of_term of_offer (term_pass_by 1 usual_keys keys path d given timers)
     (number_pass 0 86400 0 (codes "offer-lifetime") path d offer.first offer.is))
     (number_pass 1 31536000 86400 (codes "decline-probation-period") path d decline.first decline.is))
 
@@ -305,34 +396,8 @@ pub record Fits (above : Above) (around : Around) : Type 0 where
   pub bare : around.bare ≡ above.bare
   pub policy : around.policy ≡ Some above.policy
   pub boot : around.boot ≡ Some above.boot
-  pub calculated : around.calculated ≡ Some above.calculated
-  pub shares : around.shares ≡ above.shares
-  pub lifetime : around.lifetime ≡ Some above.times.lifetime
-  pub renew : around.renew ≡ Some above.times.renew
-  pub rebind : around.rebind ≡ Some above.times.rebind
-
--- the times of a subnet are those of the whole server
-pub record Repeats (calculated : Bool) (given : Shares) (times : Times) (d : Data) : Type 0 where
-  pub lifetime : is_plain_if_given (whole times.lifetime) (get (codes "valid-lifetime") d) ≡ true
-  pub limits : has_one_lifetime times.lifetime d ≡ true
-  pub renew : is_plain_if_given (whole times.renew) (get (codes "renew-timer") d) ≡ true
-  pub rebind : is_plain_if_given (whole times.rebind) (get (codes "rebind-timer") d) ≡ true
-  pub rounded : is_plain_if_given (flag calculated) (get (codes "calculate-tee-times") d) ≡ true
-  pub shares : repeats_shares calculated given d ≡ true
-
-pub repeated : (calculated : Bool) (given : Shares) (times : Times) (d : Data) → repeats_times calculated given times d ≡ Some tt → Repeats calculated given times d
-unfolding repeats_times
-repeated calculated given times d e =
-    let lifetime = passed (is_plain_if_given (whole times.lifetime) (get (codes "valid-lifetime") d)) _ tt e in
-    let limits = passed (has_one_lifetime times.lifetime d) _ tt lifetime.1 in
-    let renew = passed (is_plain_if_given (whole times.renew) (get (codes "renew-timer") d)) _ tt limits.1 in
-    let rebind = passed (is_plain_if_given (whole times.rebind) (get (codes "rebind-timer") d)) _ tt renew.1 in
-    let rounded = passed (is_plain_if_given (flag calculated) (get (codes "calculate-tee-times") d)) _ tt rebind.1 in
-    record { lifetime = lifetime.0; limits = limits.0; renew = renew.0; rebind = rebind.0; rounded = rounded.0; shares = must_hold (repeats_shares calculated given d) rounded.1 }
-
-pub calculated_pass : (given : Option Bool) (calculated : Bool) (path : List ℕ) (d : Data) → given ≡ Some calculated → is_plain_if_given (flag calculated) (get (codes "calculate-tee-times") d) ≡ true → have_refused (calculated_notes given path d) ≡ false
-calculated_pass given calculated path d e f =
-    subst (λ (o : Option Bool). have_refused (calculated_notes o path d) ≡ false) (sym e) (usual_pass (flag calculated) path (codes "calculate-tee-times") d f)
+  pub keys : around.keys ≡ Some above.keys
+  pub by_class : around.by_class ≡ above.by_class
 
 pub interface_pass : (given : Option ℕ) (server : ℕ) (spelled : Option Prefix) (prefix : Prefix) (path : List ℕ) (d : Data) → given ≡ Some server → spelled ≡ Some prefix → is_at_server server prefix (get (codes "interface") d) ≡ true
     → have_refused (interface_notes given spelled path d) ≡ false
@@ -340,21 +405,6 @@ interface_pass given server spelled prefix path d e f here =
     subst (λ (o : Option ℕ). have_refused (interface_notes o spelled path d) ≡ false) (sym e)
     (subst (λ (p : Option Prefix). have_refused (interface_notes (Some server) p path d) ≡ false) (sym f)
     (unless_none (is_at_server server prefix (get (codes "interface") d)) Unknown path (codes "interface") here))
-
-pub repeated_pass : (above : Above) (around : Around) → Fits above around → (path : List ℕ) (d : Data) → Repeats above.calculated above.shares above.times d → have_refused (repeated_notes around path d) ≡ false
-unfolding repeated_notes
-repeated_pass above around fits path d times =
-    let of_lifetime = time_note around.lifetime (codes "valid-lifetime") path d in
-    let of_limits = limit_notes around.lifetime path d in
-    let of_renew = time_note around.renew (codes "renew-timer") path d in
-    let of_rebind = time_note around.rebind (codes "rebind-timer") path d in
-    none_in_both (of_lifetime ++ of_limits ++ of_renew) of_rebind
-    (none_in_both (of_lifetime ++ of_limits) of_renew
-    (none_in_both of_lifetime of_limits
-    (time_pass around.lifetime above.times.lifetime (codes "valid-lifetime") path d fits.lifetime times.lifetime)
-    (limits_pass around.lifetime above.times.lifetime path d fits.lifetime times.limits))
-    (time_pass around.renew above.times.renew (codes "renew-timer") path d fits.renew times.renew))
-    (time_pass around.rebind above.times.rebind (codes "rebind-timer") path d fits.rebind times.rebind)
 
 -- the policy of a subnet or a network is that of the whole server
 policy_pass_by : (policy : Policy) (path : List ℕ) (d : Data) → repeats_policy policy d ≡ true → have_refused (policy_notes (Some policy) path d) ≡ false
@@ -364,33 +414,16 @@ policy_pass_by policy path d e =
     (usual_pass (flag policy.is_authoritative) path (codes "authoritative") d both.0)
     (usual_pass (flag policy.matches_client_ids) path (codes "match-client-id") d both.1)
 
-policy_pass : (given : Option Policy) (policy : Policy) (path : List ℕ) (d : Data) → given ≡ Some policy → repeats_policy policy d ≡ true → have_refused (policy_notes given path d) ≡ false
+pub policy_pass : (given : Option Policy) (policy : Policy) (path : List ℕ) (d : Data) → given ≡ Some policy → repeats_policy policy d ≡ true → have_refused (policy_notes given path d) ≡ false
 policy_pass given policy path d e f =
     subst (λ (o : Option Policy). have_refused (policy_notes o path d) ≡ false) (sym e) (policy_pass_by policy path d f)
 
--- what a subnet or a network repeats of the whole server
-pub inherited_pass : (above : Above) (around : Around) → Fits above around → (path : List ℕ) (d : Data) → repeats_times above.calculated above.shares above.times d ≡ Some tt → repeats_policy above.policy d ≡ true
-    → have_refused (inherited_notes around path d) ≡ false
-unfolding inherited_notes
-inherited_pass above around fits path d e same =
-    let times = repeated above.calculated above.shares above.times d e in
-    let of_times = repeated_notes around path d in
-    let of_calculated = calculated_notes around.calculated path d in
-    let of_shares = repeated_shares around.calculated around.shares path d in
-    let of_policy = policy_notes around.policy path d in
-    none_in_both (of_times ++ of_calculated ++ of_shares) of_policy
-    (none_in_both (of_times ++ of_calculated) of_shares
-    (none_in_both of_times of_calculated (repeated_pass above around fits path d times)
-    (calculated_pass around.calculated above.calculated path d fits.calculated times.rounded))
-    (shares_known around.calculated above.calculated around.shares above.shares path d fits.calculated fits.shares times.shares))
-    (policy_pass around.policy above.policy path d fits.policy same)
-
-pub subnet_values_pass : (above : Above) (around : Around) → Fits above around → (path : List ℕ) (d : Data) (prefix : Prefix) → repeats_times above.calculated above.shares above.times d ≡ Some tt → repeats_policy above.policy d ≡ true → (get (codes "subnet") d >>= subnet_prefix) ≡ Some prefix → is_at_server above.server prefix (get (codes "interface") d) ≡ true
+pub subnet_values_pass : (above : Above) (around : Around) → Fits above around → (path : List ℕ) (d : Data) (prefix : Prefix) → repeats_policy above.policy d ≡ true → (get (codes "subnet") d >>= subnet_prefix) ≡ Some prefix → is_at_server above.server prefix (get (codes "interface") d) ≡ true
     → have_refused (subnet_values around path d) ≡ false
 unfolding subnet_values
-subnet_values_pass above around fits path d prefix e same spelled here =
+subnet_values_pass above around fits path d prefix same spelled here =
     let of_interface = interface_notes around.address (get (codes "subnet") d >>= subnet_prefix) path d in
-    none_in_both (inherited_notes around path d) of_interface (inherited_pass above around fits path d e same)
+    none_in_both (policy_notes around.policy path d) of_interface (policy_pass around.policy above.policy path d fits.policy same)
     (interface_pass around.address above.server (get (codes "subnet") d >>= subnet_prefix) prefix path d fits.address spelled here)
 
 pub address_known : (server : Option ℕ) (d : Data) (known : List Definition) (options : List OptionData) (address : ℕ) → kea_known (get (codes "option-def") d) ≡ Some known → kea_options true known (get (codes "option-data") d) ≡ Some options → server_address options server ≡ Some address
@@ -399,47 +432,23 @@ unfolding kea_address
 address_known server d known options address e f g =
     bind_is (kea_known (get (codes "option-def") d)) known _ address e (bind_is (kea_options true known (get (codes "option-data") d)) options _ address f g)
 
--- the lifetime and the timers are those of the times
-pub record HasTimes (d : Data) (times : Times) : Type 0 where
-  pub lifetime : lifetime_in d ≡ Some times.lifetime
-  pub renew : renew_in d ≡ Some times.renew
-  pub rebind : rebind_in d ≡ Some times.rebind
-
-pub times_known : (d : Data) (calculated : Bool) (times : Times) → flag_given (get (codes "calculate-tee-times") d) ≡ Some calculated → kea_times calculated d ≡ Some times → HasTimes d times
-unfolding kea_times renew_in rebind_in
-times_known d calculated times f e =
-    let lifetime = came_from (lifetime_in d) _ times e in
-    let one = passed (has_one_lifetime lifetime.first d) _ times lifetime.gives in
-    let renew = came_from (number_if_given 1 longest_lease (usual_renew calculated (shares_given d) lifetime.first) (get (codes "renew-timer") d)) _ times one.1 in
-    let rebind = came_from (number_if_given 1 longest_lease (usual_rebind calculated (shares_given d) lifetime.first) (get (codes "rebind-timer") d)) _ times renew.gives in
-    let order = passed (are_in_order (is_asked_for calculated (get (codes "renew-timer") d)) (is_asked_for calculated (get (codes "rebind-timer") d)) renew.first rebind.first lifetime.first) _ times rebind.gives in
-    let offer = came_from (number_if_given 0 86400 0 (get (codes "offer-lifetime") d)) _ times order.1 in
-    let decline = came_from (number_if_given 1 31536000 86400 (get (codes "decline-probation-period") d)) _ times offer.gives in
-    let same = some_is _ times decline.gives in
-    let given = flag_given (get (codes "calculate-tee-times") d) in
-    subst (HasTimes d) same (record {
-      lifetime = lifetime.is;
-      renew = bind_is given calculated _ renew.first f (bind_is (lifetime_in d) lifetime.first _ renew.first lifetime.is renew.is);
-      rebind = bind_is given calculated _ rebind.first f (bind_is (lifetime_in d) lifetime.first _ rebind.first lifetime.is rebind.is);
-    })
-
-pub around_fits : (server : Option ℕ) (d : Data) (above : Above) → kea_address server d ≡ Some above.server → all_times d ≡ Some above.times → HasTimes d above.times → flag_given (get (codes "calculate-tee-times") d) ≡ Some above.calculated → flag_given (get (codes "reservations-out-of-pool") d) ≡ Some above.outside → shares_given d ≡ above.shares → kinds_given (get (codes "host-reservation-identifiers") d) ≡ above.kinds → server_has_bare_names d ≡ above.bare → kea_policy d ≡ Some above.policy → kea_boot d ≡ Some above.boot
+pub around_fits : (server : Option ℕ) (d : Data) (above : Above) → kea_address server d ≡ Some above.server → all_times d ≡ Some above.times → kea_keys usual_keys d ≡ Some above.keys → has_class_lifetime d ≡ above.by_class → flag_given (get (codes "reservations-out-of-pool") d) ≡ Some above.outside → kinds_given (get (codes "host-reservation-identifiers") d) ≡ above.kinds → server_has_bare_names d ≡ above.bare → kea_policy d ≡ Some above.policy → kea_boot d ≡ Some above.boot
     → Fits above (around_of server d)
 unfolding around_of
-around_fits server d above e given times f g s k b p o = record { address = e; times = given; outside = g; kinds = k; bare = b; policy = p; boot = o; calculated = f; shares = s; lifetime = times.lifetime; renew = times.renew; rebind = times.rebind }
+around_fits server d above e given keys c g k b p o = record { address = e; times = given; outside = g; kinds = k; bare = b; policy = p; boot = o; keys = keys; by_class = c }
 
 pub above_known : (above : Above) (around : Around) → Fits above around → above_by around ≡ Some above
 unfolding above_by
 above_known above around fits =
     bind_is around.address above.server _ above fits.address
     (bind_is around.times above.times _ above fits.times
-    (bind_is around.calculated above.calculated _ above fits.calculated
+    (bind_is around.keys above.keys _ above fits.keys
     (bind_is around.outside above.outside _ above fits.outside
     (bind_is around.policy above.policy _ above fits.policy
     (bind_is around.boot above.boot _ above fits.boot
-    (ap (λ (s : Shares). Some (record { server = above.server; times = above.times; calculated = above.calculated; shares = s; outside = above.outside; kinds = around.kinds; bare = around.bare; policy = above.policy; boot = above.boot })) fits.shares
-    ∙ ap (λ (k : HostKinds). Some (record { server = above.server; times = above.times; calculated = above.calculated; shares = above.shares; outside = above.outside; kinds = k; bare = around.bare; policy = above.policy; boot = above.boot })) fits.kinds
-    ∙ ap (λ (b : Bool). Some (record { server = above.server; times = above.times; calculated = above.calculated; shares = above.shares; outside = above.outside; kinds = above.kinds; bare = b; policy = above.policy; boot = above.boot })) fits.bare))))))
+    (ap (λ (c : Bool). Some (record { server = above.server; times = above.times; keys = above.keys; by_class = c; outside = above.outside; kinds = around.kinds; bare = around.bare; policy = above.policy; boot = above.boot })) fits.by_class
+    ∙ ap (λ (k : HostKinds). Some (record { server = above.server; times = above.times; keys = above.keys; by_class = above.by_class; outside = above.outside; kinds = k; bare = around.bare; policy = above.policy; boot = above.boot })) fits.kinds
+    ∙ ap (λ (b : Bool). Some (record { server = above.server; times = above.times; keys = above.keys; by_class = above.by_class; outside = above.outside; kinds = above.kinds; bare = b; policy = above.policy; boot = above.boot })) fits.bare))))))
 
 pub below_known : (given : Option Above) (above : Above) (known : List Definition) (d : Data) (subnet : Subnet) → given ≡ Some above → kea_subnet above known d ≡ Some subnet → kea_below given known d ≡ Some tt
 below_known given above known d subnet e f =

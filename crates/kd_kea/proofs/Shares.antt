@@ -13,7 +13,7 @@ use lib.Ieee.Nearest.{div_same}
 use lib.Ieee.Scale.{round_same}
 use lib.Pow.{pow_mono, pow_pos, shl_lt}
 use native.Mathlib.Nat.{lt_of_lt_of_le, mul-pos}
-use Rattle.kd_kea.specs.Times.{share_of}
+use Rattle.kd_config.specs.Term.{share_of}
 use Rattle.kd_kea.specs.declared.objects.times.TheConstants.{HALF, SEVEN_EIGHTHS}
 
 -- the product of k / 2 ^ (j + 1) and a whole number n

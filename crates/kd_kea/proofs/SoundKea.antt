@@ -14,6 +14,7 @@ use Rattle.kd_json.specs.Values.{text_if_given}
 use Rattle.kd_json.specs.declared.objects.class.ClassEntry.{ClassEntry}
 use Rattle.kd_json.specs.declared.objects.settings.Settings.{Settings}
 use Rattle.kd_kea.proofs.SoundBoot.{boot_sound, own_sound}
+use Rattle.kd_kea.proofs.SoundLifetimes.{class_lifetime_sound, keys_sound, usual_keys_sound}
 use Rattle.kd_kea.proofs.SoundNetworks.{subnets_sound}
 use Rattle.kd_kea.proofs.Sounds.{all_sound, options_sound, server_sound, times_sound}
 use Rattle.kd_kea.specs.Boot.{kea_boot, own_boot}
@@ -23,13 +24,14 @@ use Rattle.kd_kea.specs.HostKinds.{kinds_given}
 use Rattle.kd_kea.specs.HostName.{server_has_bare_names}
 use Rattle.kd_kea.specs.Kea.{kea_settings}
 use Rattle.kd_kea.specs.Keys.{keys_are_read}
+use Rattle.kd_kea.specs.Lifetimes.{class_lifetime, has_class_lifetime, kea_keys, usual_keys}
 use Rattle.kd_kea.specs.Network.{kea_subnets}
 use Rattle.kd_kea.specs.Options.{kea_options, server_address}
 use Rattle.kd_kea.specs.Plain.{plain}
 use Rattle.kd_kea.specs.Policy.{kea_policy}
 use Rattle.kd_kea.specs.Settings.{has_server_form, kea_dhcp4, kea_root, kea_settings_with}
 use Rattle.kd_kea.specs.Tables.{class_keys, root_keys}
-use Rattle.kd_kea.specs.Times.{has_usual_shares, kea_times, shares_given}
+use Rattle.kd_kea.specs.Times.{kea_times}
 use Rattle.kd_kea.specs.Values.{flag_given}
 use Rattle.kd_kea.specs.declared.objects.definition.Definition.{Definition}
 use Rattle.kd_kea.specs.declared.objects.subnet.Above.{Above}
@@ -51,33 +53,35 @@ entry_sound known d entry e =
     let text = came_from (text_if_given (get (codes "test") d)) _ entry name.gives in
     let options = came_from (kea_class_options known d) _ entry text.gives in
     let boot = came_from (own_boot d) _ entry options.gives in
+    let lifetime = came_from (class_lifetime d) _ entry boot.gives in
     let value = came_from (get (codes "name") d) class_name_in name.first name.is in
-    subst IsEntry (some_is _ entry boot.gives) (record {
+    subst IsEntry (some_is _ entry lifetime.gives) (record {
       name = name_sound value.first name.first value.gives;
       options = class_options_sound known d options.first options.is;
       boot = own_sound d boot.first boot.is;
+      lifetime = class_lifetime_sound d lifetime.first lifetime.is;
     })
 
 dhcp4_sound : (server : Option ℕ) (d : Data) (s : Settings) → kea_dhcp4 server d ≡ Some s → AreSettings s
 unfolding kea_dhcp4 kea_settings_with
 dhcp4_sound server d s e =
     let form = came_from (has_server_form d) _ s e in
-    let calculated = came_from (flag_given (get (codes "calculate-tee-times") d)) _ s form.gives in
-    let shares = passed (has_usual_shares calculated.first d) _ s calculated.gives in
-    let times = came_from (kea_times calculated.first d) _ s shares.1 in
+    let keys = came_from (kea_keys usual_keys d) _ s form.gives in
+    let times = came_from (kea_times keys.first d) _ s keys.gives in
     let outside = came_from (flag_given (get (codes "reservations-out-of-pool") d)) _ s times.gives in
     let policy = came_from (kea_policy d) _ s outside.gives in
     let boot = came_from (kea_boot d) _ s policy.gives in
     let known = came_from (kea_known (get (codes "option-def") d)) _ s boot.gives in
     let options = came_from (kea_options true known.first (get (codes "option-data") d)) _ s known.gives in
     let address = came_from (server_address options.first server) _ s options.gives in
-    let above : Above = record { server = address.first; times = times.first; calculated = calculated.first; shares = shares_given d; outside = outside.first; kinds = kinds_given (get (codes "host-reservation-identifiers") d); bare = server_has_bare_names d; policy = policy.first; boot = boot.first } in
+    let above : Above = record { server = address.first; times = times.first; keys = keys.first; by_class = has_class_lifetime d; outside = outside.first; kinds = kinds_given (get (codes "host-reservation-identifiers") d); bare = server_has_bare_names d; policy = policy.first; boot = boot.first } in
     let classes = came_from (list_of 256 (kea_class known.first) (get (codes "client-classes") d)) _ s address.gives in
     let subnets = came_from (kea_subnets above known.first d) _ s classes.gives in
-    let sound = subnets_sound above (boot_sound d boot.first boot.is) known.first d subnets.first subnets.is in
+    let numbers = keys_sound usual_keys usual_keys_sound d keys.first keys.is in
+    let sound = subnets_sound above (record { boot = boot_sound d boot.first boot.is; keys = numbers }) known.first d subnets.first subnets.is in
     subst AreSettings (some_is _ s subnets.gives) (record {
       server = server_sound options.first server address.first address.is;
-      times = times_sound calculated.first d times.first times.is;
+      times = times_sound keys.first numbers.usual d times.first times.is;
       options = all_sound known.first (get (codes "option-data") d) options.first options.is;
       classes = each_meant IsEntry (kea_class known.first) (entry_sound known.first) 256 (get (codes "client-classes") d) classes.first classes.is;
       few = sound.0;

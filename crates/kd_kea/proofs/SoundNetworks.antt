@@ -5,21 +5,18 @@ use borrow.Author.Tests.{leb-true}
 use Rattle.serde_json.specs.Data.{Data}
 use Rattle.serde_json.specs.Find.{get}
 use Rattle.kd_config.proofs.Tests.{some_is}
-use Rattle.kd_config.specs.Sound.{AreOptions, IsBoot, IsSubnet}
+use Rattle.kd_config.specs.Sound.{AreOptions, IsSubnet}
 use Rattle.kd_config.specs.declared.subnet.Subnet.{Subnet}
 use Rattle.kd_json.proofs.Came.{came_from, each_meant, passed, passed_only}
 use Rattle.kd_json.specs.Lists.{list_of}
 use Rattle.kd_json.specs.Values.{text_if_given}
-use Rattle.kd_kea.proofs.SoundBoot.{boot_sound, or_sound}
 use Rattle.kd_kea.proofs.SoundParts.{each_of_both}
-use Rattle.kd_kea.proofs.SoundSubnets.{relays_few, subnet_sound}
+use Rattle.kd_kea.proofs.SoundSubnets.{IsAbove, relays_few, subnet_sound, within_sound}
 use Rattle.kd_kea.proofs.Sounds.{options_sound}
-use Rattle.kd_kea.specs.Boot.{kea_boot}
-use Rattle.kd_kea.specs.Network.{above_members, as_member, has_network_form, is_in_one_of, is_interface_of, kea_common, kea_member, kea_network, kea_subnets, may_be_of, numbered, one_class, relays_or, with_network}
+use Rattle.kd_kea.specs.Network.{as_member, has_network_form, is_in_one_of, is_interface_of, kea_common, kea_member, kea_network, kea_subnets, may_be_of, numbered, one_class, relays_or, with_network}
 use Rattle.kd_kea.specs.Options.{kea_options}
 use Rattle.kd_kea.specs.Relay.{relays_of}
-use Rattle.kd_kea.specs.Subnet.{kea_subnet}
-use Rattle.kd_kea.specs.Values.{flag_or}
+use Rattle.kd_kea.specs.Subnet.{above_within, kea_subnet}
 use Rattle.kd_kea.specs.declared.objects.definition.Definition.{Definition}
 use Rattle.kd_kea.specs.declared.objects.network.Common.{Common}
 use Rattle.kd_kea.specs.declared.objects.subnet.Above.{Above}
@@ -59,24 +56,24 @@ as_member_sound common subnet member shared sound e =
       options = sound.options;
       shared = shared.options;
       boot = sound.boot;
+      term = sound.term;
     })
 
-member_sound : (above : Above) → IsBoot above.boot → (known : List Definition) (common : Common) → IsCommon common → (d : Data) (member : Subnet) → kea_member above known common d ≡ Some member → IsSubnet member
+member_sound : (above : Above) → IsAbove above → (known : List Definition) (common : Common) → IsCommon common → (d : Data) (member : Subnet) → kea_member above known common d ≡ Some member → IsSubnet member
 unfolding kea_member
 member_sound above given known common shared d member e =
     let subnet = came_from (kea_subnet above known d) _ member e in
     as_member_sound common subnet.first member shared (subnet_sound above given known d subnet.first subnet.is) subnet.gives
 
-network_sound : (above : Above) → IsBoot above.boot → (known : List Definition) (d : Data) (members : List Subnet) → kea_network above known d ≡ Some members → AllByRecursion IsSubnet members
+network_sound : (above : Above) → IsAbove above → (known : List Definition) (d : Data) (members : List Subnet) → kea_network above known d ≡ Some members → AllByRecursion IsSubnet members
 unfolding kea_network
 network_sound above given known d members e =
     let form = came_from (has_network_form above d) _ members e in
     let common = came_from (kea_common known d) _ members form.gives in
-    let outside = came_from (flag_or above.outside (get (codes "reservations-out-of-pool") d)) _ members common.gives in
-    let boot = came_from (kea_boot d) _ members outside.gives in
-    let inner = above_members above outside.first boot.first d in
-    let inner_given = or_sound boot.first above.boot (boot_sound d boot.first boot.is) given in
-    let read = came_from (list_of 64 (kea_member inner known common.first) (get (codes "subnet4") d)) _ members boot.gives in
+    let within = came_from (above_within above d) _ members common.gives in
+    let inner = within.first in
+    let inner_given = within_sound above given d inner within.is in
+    let read = came_from (list_of 64 (kea_member inner known common.first) (get (codes "subnet4") d)) _ members within.gives in
     let here = passed (is_interface_of (is_in_one_of read.first above.server) (get (codes "interface") d)) _ members read.gives in
     let shared = common_sound known d common.first common.is in
     subst (AllByRecursion IsSubnet) (some_is read.first members here.1)
@@ -95,6 +92,7 @@ with_network_sound number subnet sound =
       options = sound.options;
       shared = sound.shared;
       boot = sound.boot;
+      term = sound.term;
     }
 
 with_networks_sound : (number : ℕ) (subnets : List Subnet) → AllByRecursion IsSubnet subnets → AllByRecursion IsSubnet (map (with_network number) subnets)
@@ -109,7 +107,7 @@ numbered_sound number (members ∷ networks) sound =
     (with_networks_sound number members sound.0) (numbered_sound (number + 1) networks sound.1)
 
 -- the subnets of the whole server are subnets of a configuration, and at most 256
-pub subnets_sound : (above : Above) → IsBoot above.boot → (known : List Definition) (d : Data) (subnets : List Subnet) → kea_subnets above known d ≡ Some subnets → (length subnets ≤ 256) × AllByRecursion IsSubnet subnets
+pub subnets_sound : (above : Above) → IsAbove above → (known : List Definition) (d : Data) (subnets : List Subnet) → kea_subnets above known d ≡ Some subnets → (length subnets ≤ 256) × AllByRecursion IsSubnet subnets
 unfolding kea_subnets
 subnets_sound above given known d subnets e =
     let networks = came_from (list_of 256 (kea_network above known) (get (codes "shared-networks") d)) _ subnets e in

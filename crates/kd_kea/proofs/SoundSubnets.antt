@@ -15,20 +15,22 @@ use Rattle.kd_json.specs.Subnet.{subnet_prefix}
 use Rattle.kd_json.specs.Values.{address_given, text_if_given}
 use Rattle.kd_kea.proofs.SoundBoot.{boot_sound, listed_sound, or_sound, own_sound}
 use Rattle.kd_kea.proofs.SoundClients.{client_sound}
+use Rattle.kd_kea.proofs.SoundLifetimes.{AreTermKeys, keys_sound, term_sound}
 use Rattle.kd_kea.proofs.SoundNames.{host_options_sound}
 use Rattle.kd_kea.proofs.SoundParts.{IsWide, parts_sound}
 use Rattle.kd_kea.proofs.Sounds.{options_sound}
 use Rattle.kd_kea.specs.Boot.{kea_boot, own_boot}
 use Rattle.kd_kea.specs.HostClient.{kea_client}
 use Rattle.kd_kea.specs.HostKinds.{are_all_found}
-use Rattle.kd_kea.specs.HostName.{has_bare_names, host_options}
+use Rattle.kd_kea.specs.HostName.{host_options}
 use Rattle.kd_kea.specs.Keys.{keys_are_read}
+use Rattle.kd_kea.specs.Lifetimes.{kea_keys}
 use Rattle.kd_kea.specs.Options.{kea_options}
 use Rattle.kd_kea.specs.Parts.{parts_of_all}
 use Rattle.kd_kea.specs.Pool.{kea_pool, kea_range, may_require}
 use Rattle.kd_kea.specs.Relay.{kea_relay, relays_by, relays_of}
 use Rattle.kd_kea.specs.Reservation.{address_if_given, kea_reservation}
-use Rattle.kd_kea.specs.Subnet.{stand_beside, has_subnet_form, is_at_server, kea_subnet, kea_subnet_with}
+use Rattle.kd_kea.specs.Subnet.{above_within, stand_beside, has_subnet_form, is_at_server, kea_subnet, kea_subnet_with}
 use Rattle.kd_kea.specs.Tables.{host_keys, pool_keys, relay_keys}
 use Rattle.kd_kea.specs.Values.{flag_or}
 use Rattle.kd_kea.specs.declared.objects.definition.Definition.{Definition}
@@ -90,32 +92,50 @@ relays_few (Some d) relays e =
       by_keys None (Some it) h = one (address_given it) h
       by_keys (Some many) (Some it) h = absurd (cc)
 
-pub subnet_sound : (above : Above) → IsBoot above.boot → (known : List Definition) (d : Data) (subnet : Subnet) → kea_subnet above known d ≡ Some subnet → IsSubnet subnet
+-- what holds above a subnet is what may hold in it
+pub record IsAbove (above : Above) : Type 0 where
+  pub boot : IsBoot above.boot
+  pub keys : AreTermKeys above.keys
+
+pub within_sound : (above : Above) → IsAbove above → (d : Data) (within : Above) → above_within above d ≡ Some within → IsAbove within
+unfolding above_within
+within_sound above sound d within e =
+    let keys = came_from (kea_keys above.keys d) _ within e in
+    let outside = came_from (flag_or above.outside (get (codes "reservations-out-of-pool") d)) _ within keys.gives in
+    let boot = came_from (kea_boot d) _ within outside.gives in
+    subst IsAbove (some_is _ within boot.gives) (record {
+      boot = or_sound boot.first above.boot (boot_sound d boot.first boot.is) sound.boot;
+      keys = keys_sound above.keys sound.keys d keys.first keys.is;
+    })
+
+pub subnet_sound : (above : Above) → IsAbove above → (known : List Definition) (d : Data) (subnet : Subnet) → kea_subnet above known d ≡ Some subnet → IsSubnet subnet
 unfolding kea_subnet kea_subnet_with
 subnet_sound above given known d subnet e =
     let form = came_from (has_subnet_form above d) _ subnet e in
     let prefix = came_from (option_and_then subnet_prefix (get (codes "subnet") d)) _ subnet form.gives in
     let here = passed (is_at_server above.server prefix.first (get (codes "interface") d)) _ subnet prefix.gives in
     let class = came_from (text_if_given (get (codes "client-class") d)) _ subnet here.1 in
-    let outside = came_from (flag_or above.outside (get (codes "reservations-out-of-pool") d)) _ subnet class.gives in
-    let relays = came_from (relays_of (get (codes "relay") d)) _ subnet outside.gives in
+    let within = came_from (above_within above d) _ subnet class.gives in
+    let sound = within_sound above given d within.first within.is in
+    let relays = came_from (relays_of (get (codes "relay") d)) _ subnet within.gives in
     let pools = came_from (list_of 64 (kea_pool known) (get (codes "pools") d) >>= parts_of_all) _ subnet relays.gives in
     let whole = came_from (list_of 64 (kea_pool known) (get (codes "pools") d)) parts_of_all pools.first pools.is in
     let parts = parts_sound whole.first pools.first whole.gives (each_meant IsWide (kea_pool known) (pool_sound known) 64 (get (codes "pools") d) whole.first whole.is) in
-    let bare = has_bare_names above.bare d in
-    let reservations = came_from (list_of 4096 (kea_reservation known above.kinds bare) (get (codes "reservations") d)) _ subnet pools.gives in
-    let beside = passed (stand_beside outside.first pools.first reservations.first) _ subnet reservations.gives in
+    let kinds = within.first.kinds in
+    let bare = within.first.bare in
+    let reservations = came_from (list_of 4096 (kea_reservation known kinds bare) (get (codes "reservations") d)) _ subnet pools.gives in
+    let beside = passed (stand_beside within.first.outside pools.first reservations.first) _ subnet reservations.gives in
     let options = came_from (kea_options false known (get (codes "option-data") d)) _ subnet beside.1 in
-    let boot = came_from (kea_boot d) _ subnet options.gives in
     let value = came_from (get (codes "subnet") d) subnet_prefix prefix.first prefix.is in
-    subst IsSubnet (some_is _ subnet boot.gives) (record {
+    subst IsSubnet (some_is _ subnet options.gives) (record {
       prefix = prefix_in_sound value.first prefix.first value.gives;
       few_relays = relays_few (get (codes "relay") d) relays.first relays.is;
       few_pools = parts.0;
       pools = parts.1;
-      few_reservations = few_meant 4096 (kea_reservation known above.kinds bare) (get (codes "reservations") d) reservations.first reservations.is;
-      reservations = each_meant IsReservation (kea_reservation known above.kinds bare) (reservation_sound known above.kinds bare) 4096 (get (codes "reservations") d) reservations.first reservations.is;
+      few_reservations = few_meant 4096 (kea_reservation known kinds bare) (get (codes "reservations") d) reservations.first reservations.is;
+      reservations = each_meant IsReservation (kea_reservation known kinds bare) (reservation_sound known kinds bare) 4096 (get (codes "reservations") d) reservations.first reservations.is;
       options = options_sound known (get (codes "option-data") d) options.first options.is;
       shared = record { few = omega arith; each = tt; own = tt };
-      boot = or_sound boot.first above.boot (boot_sound d boot.first boot.is) given;
+      boot = sound.boot;
+      term = term_sound within.first sound.keys;
     })

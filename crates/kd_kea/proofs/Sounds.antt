@@ -23,7 +23,8 @@ use Rattle.kd_kea.specs.Options.{address_by, address_in_bytes, code_if_given, co
 use Rattle.kd_kea.specs.declared.objects.definition.Definition.{Definition}
 use Rattle.kd_kea.specs.declared.objects.entry.OptionEntry.{OptionEntry}
 use Rattle.kd_kea.specs.Tables.{data_keys}
-use Rattle.kd_kea.specs.Times.{are_in_order, has_one_lifetime, is_asked_for, fits_below, kea_times, offer_time, shares_given, usual_rebind, usual_renew}
+use Rattle.kd_kea.specs.Times.{are_in_order, fits_below, is_asked_for, kea_times, offer_time, usual_rebind, usual_renew}
+use Rattle.kd_kea.specs.declared.objects.lifetimes.TermKeys.{TermKeys}
 use Rattle.kd_kea.specs.Values.{flag_given, text_otherwise}
 use Rattle.serde_json.specs.Data.{Data}
 use Rattle.serde_json.specs.Find.{get}
@@ -40,26 +41,24 @@ within_sound : (asked : Bool) (time bound : ℕ) → fits_below asked time bound
 within_sound true time bound e = omega (arith, ltb-true time bound e)
 within_sound false time bound e = leb-true time bound e
 
-pub times_sound : (calculated : Bool) (d : Data) (t : Times) → kea_times calculated d ≡ Some t → AreTimes t
+pub times_sound : (keys : TermKeys) → IsFrom 1 longest_lease keys.usual → (d : Data) (t : Times) → kea_times keys d ≡ Some t → AreTimes t
 unfolding kea_times
-times_sound calculated d t e =
-    let lifetime = came_from (number_if_given 1 longest_lease 7200 (get (codes "valid-lifetime") d)) _ t e in
-    let one = passed (has_one_lifetime lifetime.first d) _ t lifetime.gives in
+times_sound keys usual d t e =
     let renew_given = get (codes "renew-timer") d in
     let rebind_given = get (codes "rebind-timer") d in
-    let renew_asked = is_asked_for calculated renew_given in
-    let rebind_asked = is_asked_for calculated rebind_given in
-    let renew = came_from (number_if_given 1 longest_lease (usual_renew calculated (shares_given d) lifetime.first) renew_given) _ t one.1 in
-    let rebind = came_from (number_if_given 1 longest_lease (usual_rebind calculated (shares_given d) lifetime.first) rebind_given) _ t renew.gives in
-    let order = passed (are_in_order renew_asked rebind_asked renew.first rebind.first lifetime.first) _ t rebind.gives in
-    let first = both_passed ((not renew_asked || nat_lt 0 renew.first) && fits_below (renew_asked && rebind_asked) renew.first rebind.first) (fits_below rebind_asked rebind.first lifetime.first) order.0 in
+    let renew_asked = is_asked_for keys.calculated renew_given in
+    let rebind_asked = is_asked_for keys.calculated rebind_given in
+    let renew = came_from (number_if_given 1 longest_lease (usual_renew keys.calculated keys.shares keys.usual) renew_given) _ t e in
+    let rebind = came_from (number_if_given 1 longest_lease (usual_rebind keys.calculated keys.shares keys.usual) rebind_given) _ t renew.gives in
+    let order = passed (are_in_order renew_asked rebind_asked renew.first rebind.first keys.usual) _ t rebind.gives in
+    let first = both_passed ((not renew_asked || nat_lt 0 renew.first) && fits_below (renew_asked && rebind_asked) renew.first rebind.first) (fits_below rebind_asked rebind.first keys.usual) order.0 in
     let second = both_passed (not renew_asked || nat_lt 0 renew.first) (fits_below (renew_asked && rebind_asked) renew.first rebind.first) first.0 in
     let offer = came_from (number_if_given 0 86400 0 (get (codes "offer-lifetime") d)) _ t order.1 in
     let decline = came_from (number_if_given 1 31536000 86400 (get (codes "decline-probation-period") d)) _ t offer.gives in
     subst AreTimes (some_is _ t decline.gives) (record {
-      lifetime = number_or_sound 1 longest_lease 7200 (get (codes "valid-lifetime") d) lifetime.first (record { above = omega arith; below = omega arith }) lifetime.is;
+      lifetime = usual;
       renew = within_sound (renew_asked && rebind_asked) renew.first rebind.first second.1;
-      rebind = within_sound rebind_asked rebind.first lifetime.first first.1;
+      rebind = within_sound rebind_asked rebind.first keys.usual first.1;
       offer_hold = offer_sound offer.first (number_or_sound 0 86400 0 (get (codes "offer-lifetime") d) offer.first (record { above = omega arith; below = omega arith }) offer.is);
       decline_hold = number_or_sound 1 31536000 86400 (get (codes "decline-probation-period") d) decline.first (record { above = omega arith; below = omega arith }) decline.is;
     })

@@ -6,7 +6,8 @@ use Rattle.std.specs.Float.Ieee.{mul, of_int, to_unsigned}
 use Rattle.serde_json.proofs.OnLiterals.{serde_json_on_literals}
 use Rattle.serde_json.specs.Data.{number}
 use Rattle.serde_json.specs.Read.{number_of}
-use Rattle.kd_kea.specs.Times.{share_given, share_of}
+use Rattle.kd_config.specs.Term.{share_of}
+use Rattle.kd_kea.specs.Times.{share_given}
 use Rattle.kd_kea.specs.declared.objects.times.TheConstants.{NOTHING}
 
 -- the share that a text gives, of a lifetime

@@ -1,5 +1,5 @@
--- A client class in a configuration of Kea's: a name, a test, options, and boot
--- fields.
+-- A client class in a configuration of Kea's: a name, a test, options, boot fields, and how long the
+-- leases of its members last.
 use Rattle.std.specs.Prelude.{ℕ, true, false, List, ◌++◌, codes, Option, Some, None}
 use Rattle.serde_json.specs.Data.{Data}
 use Rattle.serde_json.specs.Find.{get}
@@ -13,6 +13,7 @@ use Rattle.kd_json.specs.declared.objects.class.TestSource.TheVariants.{Nothing,
 use Rattle.kd_kea.specs.Boot.{own_boot}
 use Rattle.kd_kea.specs.Definitions.{kea_definitions}
 use Rattle.kd_kea.specs.Keys.{keys_are_read}
+use Rattle.kd_kea.specs.Lifetimes.{class_lifetime}
 use Rattle.kd_kea.specs.Options.{kea_options}
 use Rattle.kd_kea.specs.Tables.{class_keys}
 use Rattle.kd_kea.specs.Values.{unless_empty}
@@ -38,4 +39,5 @@ kea_class known d = do
   text ← text_if_given (get (codes "test") d)
   options ← kea_class_options known d
   boot ← own_boot d
-  Some (record { name = name; source = source_by (unless_empty text); options = options; boot = boot })
+  lifetime ← class_lifetime d
+  Some (record { name = name; source = source_by (unless_empty text); options = options; boot = boot; lifetime = lifetime })

@@ -10,6 +10,7 @@ pub mod Quoted
 pub mod OptionValue
 pub mod Options
 pub mod Times
+pub mod Lifetimes
 pub mod Boot
 pub mod Policy
 pub mod Class

@@ -5,8 +5,6 @@ use Rattle.std.specs.Prelude.{ℕ, ◌+◌, Bool, true, false, ◌||◌, not, Li
 use Rattle.std.specs.List.{list_all, list_any}
 use Rattle.serde_json.specs.Data.{Data, string}
 use Rattle.serde_json.specs.Find.{as_str, get}
-use Rattle.kd_classes.specs.Boot.{boot_or}
-use Rattle.kd_classes.specs.declared.boot.Boot.{Boot}
 use Rattle.kd_config.specs.Address.{has_address}
 use Rattle.kd_config.specs.declared.pool.Pool.{Pool}
 use Rattle.kd_config.specs.declared.reservation.Reservation.{Reservation}
@@ -14,16 +12,13 @@ use Rattle.kd_config.specs.declared.subnet.Subnet.{Subnet}
 use Rattle.kd_json.specs.Lists.{list_of}
 use Rattle.kd_json.specs.Steps.{must, only_if}
 use Rattle.kd_json.specs.Values.{text_if_given}
-use Rattle.kd_kea.specs.Boot.{kea_boot}
-use Rattle.kd_kea.specs.HostName.{has_bare_names}
 use Rattle.kd_kea.specs.Keys.{is_plain, keys_are_read, word}
 use Rattle.kd_kea.specs.Options.{kea_options}
 use Rattle.kd_kea.specs.Policy.{repeats_policy}
 use Rattle.kd_kea.specs.Relay.{relays_of}
-use Rattle.kd_kea.specs.Subnet.{kea_subnet}
+use Rattle.kd_kea.specs.Subnet.{above_within, kea_subnet}
 use Rattle.kd_kea.specs.Tables.{network_keys}
-use Rattle.kd_kea.specs.Times.{repeats_times}
-use Rattle.kd_kea.specs.Values.{flag_or, unless_empty}
+use Rattle.kd_kea.specs.Values.{unless_empty}
 use Rattle.kd_kea.specs.declared.objects.definition.Definition.{Definition}
 use Rattle.kd_kea.specs.declared.objects.network.Common.{Common}
 use Rattle.kd_kea.specs.declared.objects.subnet.Above.{Above}
@@ -69,7 +64,7 @@ unfoldable pub as_member : Common → Subnet → Option Subnet
 as_member common subnet = do
   class ← one_class subnet.class common.class
   _ ← must (may_be_of class subnet.pools subnet.reservations)
-  Some (record { prefix = subnet.prefix; relays = relays_or subnet.relays common.relays; class = class; pools = subnet.pools; reservations = subnet.reservations; options = subnet.options; network = 0; shared = common.options; boot = subnet.boot })
+  Some (record { prefix = subnet.prefix; relays = relays_or subnet.relays common.relays; class = class; pools = subnet.pools; reservations = subnet.reservations; options = subnet.options; network = 0; shared = common.options; boot = subnet.boot; term = subnet.term })
 
 -- the member that a value describes
 unfoldable pub kea_member : Above → List Definition → Common → Data → Option Subnet
@@ -81,7 +76,6 @@ kea_member above known common d = do
 unfoldable pub has_network_form : Above → Data → Option (Unit {0})
 has_network_form above d = do
   _ ← must (keys_are_read network_keys d)
-  _ ← repeats_times above.calculated above.shares above.times d
   _ ← must (repeats_policy above.policy d)
   must (is_some (get (codes "name") d >>= as_str))
 
@@ -93,29 +87,13 @@ kea_common known d = do
   options ← kea_options false known (get (codes "option-data") d)
   Some (record { relays = relays; class = unless_empty class; options = options })
 
--- what holds above the members of a network, which gives this to the boot fields
-abbrev pub above_members : Above → Bool → Boot → Data → Above
-above_members above outside boot d =
-    record {
-      server = above.server;
-      times = above.times;
-      calculated = above.calculated;
-      shares = above.shares;
-      outside = outside;
-      kinds = above.kinds;
-      bare = has_bare_names above.bare d;
-      policy = above.policy;
-      boot = boot_or boot above.boot;
-    }
-
 -- the members of the network that a value describes, below what holds for the whole server
 unfoldable pub kea_network : Above → List Definition → Data → Option (List Subnet)
 kea_network above known d = do
   _ ← has_network_form above d
   common ← kea_common known d
-  outside ← flag_or above.outside (get (codes "reservations-out-of-pool") d)
-  boot ← kea_boot d
-  members ← list_of 64 (kea_member (above_members above outside boot d) known common) (get (codes "subnet4") d)
+  within ← above_within above d
+  members ← list_of 64 (kea_member within known common) (get (codes "subnet4") d)
   _ ← must (is_interface_of (is_in_one_of members above.server) (get (codes "interface") d))
   Some members
 
@@ -132,6 +110,7 @@ with_network number subnet =
       network = number;
       shared = subnet.shared;
       boot = subnet.boot;
+      term = subnet.term;
     }
 
 -- the members of networks, each with the number of its network: this one for the first

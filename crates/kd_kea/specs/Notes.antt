@@ -3,7 +3,7 @@
 -- (RFC 6901). The keys of an object come first, in order, then those of its keys that are served with
 -- some values only, then its own values, and then what is in it. A value is wrong if it describes
 -- nothing although nothing in it is refused.
-use Rattle.std.specs.Prelude.{ℕ, ◌+◌, Bool, true, false, ◌||◌, if◌then◌else◌, List, [], ◌∷◌, ◌++◌, codes, decimal, option_map, string_bytes, Option, Some, None, is_some}
+use Rattle.std.specs.Prelude.{ℕ, ◌+◌, Bool, true, false, ◌||◌, if◌then◌else◌, nat_le, List, [], ◌∷◌, ◌++◌, codes, decimal, option_map, string_bytes, Option, Some, None, is_some}
 use Rattle.std.specs.List.{flat_map, list_any}
 use Rattle.serde_json.specs.Data.{Data, Items, no_items, item, Members, no_members, member}
 use Rattle.serde_json.specs.Find.{as_array, as_object, as_str, get}
@@ -25,7 +25,8 @@ use Rattle.kd_kea.specs.Definitions.{kea_definition, kea_definitions, kea_known,
 use Rattle.kd_kea.specs.HostKinds.{finds_reservations, is_found_if_given, kinds_given, kinds_in_order, kind_key}
 use Rattle.kd_kea.specs.HostName.{has_bare_names, host_name, may_be_named, server_has_bare_names}
 use Rattle.kd_kea.specs.Hooks.{hooks_are_quiet}
-use Rattle.kd_kea.specs.Keys.{KeyUse, Plain, flag, fraction, is_plain, key_use, allows_value, no_list, skipped, whole}
+use Rattle.kd_kea.specs.Keys.{KeyUse, Plain, flag, fraction, is_plain, key_use, allows_value, no_list, skipped}
+use Rattle.kd_kea.specs.Lifetimes.{bound_key, class_lifetime, has_class_lifetime, kea_keys, keys_given, lifetime_of, timer_key, timers_rise, usual_keys}
 use Rattle.kd_kea.specs.Network.{is_interface_of, kea_network}
 use Rattle.kd_kea.specs.Options.{is_served_space, kea_entry, kea_options, server_address}
 use Rattle.kd_kea.specs.Plain.{plain}
@@ -37,15 +38,15 @@ use Rattle.kd_kea.specs.Reservation.{kea_reservation}
 use Rattle.kd_kea.specs.Settings.{kea_dhcp4, kea_root, turns_nothing_on}
 use Rattle.kd_kea.specs.Subnet.{is_at_server, kea_subnet, stand_beside}
 use Rattle.kd_kea.specs.Tables.{class_keys, data_keys, definition_keys, host_keys, network_keys, pool_keys, relay_keys, root_keys, server_keys, subnet_keys}
-use Rattle.kd_kea.specs.Times.{are_shares, kea_times, share_key, shares_given, times_key, usual_rebind, usual_renew}
+use Rattle.kd_kea.specs.Times.{has_usual_shares, kea_times, share_key, times_key}
 use Rattle.kd_kea.specs.Values.{flag_given, flag_or, is_plain_if_given}
 use Rattle.kd_kea.specs.declared.notes.Note.{Note}
 use Rattle.kd_kea.specs.declared.notes.NoteKind.{NoteKind}
 use Rattle.kd_kea.specs.declared.notes.NoteKind.TheVariants.{Skipped, Unknown, Wrong}
 use Rattle.kd_kea.specs.declared.notes.around.Around.{Around}
-use Rattle.kd_kea.specs.declared.objects.times.Shares.{Shares}
 use Rattle.kd_kea.specs.declared.objects.definition.Definition.{Definition}
 use Rattle.kd_kea.specs.declared.objects.host_kinds.HostKinds.{HostKinds}
+use Rattle.kd_kea.specs.declared.objects.lifetimes.TermKeys.{TermKeys}
 use Rattle.kd_kea.specs.declared.objects.policy.Policy.{Policy}
 use Rattle.kd_kea.specs.declared.objects.subnet.Above.{Above}
 use Rattle.kd_kea.specs.declared.objects.times.TheConstants.{HALF, SEVEN_EIGHTHS}
@@ -187,37 +188,10 @@ unused_shares path d =
     notes_at (unused_share (fraction HALF)) path (codes "t1-percent") d
     ++ notes_at (unused_share (fraction SEVEN_EIGHTHS)) path (codes "t2-percent") d
 
--- the notes on the shares of T1 and T2 of the whole server, if it is known whether the times are
--- calculated: they are wrong, or not used
-abbrev pub share_notes : Option Bool → ObjectNotes
+-- the notes on the shares of T1 and T2 of a subnet, if they are known not to be used
+abbrev pub share_notes : Option TermKeys → ObjectNotes
 share_notes None path d = []
-share_notes (Some true) path d =
-    note_unless (are_shares (shares_given d)) Wrong path (share_key d)
-share_notes (Some false) path d = unused_shares path d
-
--- the notes on the shares of a subnet, which may only be those of the whole server if the times are
--- calculated
-abbrev pub repeated_shares : Option Bool → Shares → ObjectNotes
-repeated_shares None shares path d = []
-repeated_shares (Some true) shares path d =
-    usual_note (fraction shares.renew) path (codes "t1-percent") d
-    ++ usual_note (fraction shares.rebind) path (codes "t2-percent") d
-repeated_shares (Some false) shares path d = unused_shares path d
-
--- the note on a time that may only be one of the whole server, if that is known
-abbrev pub time_note : Option ℕ → List ℕ → ObjectNotes
-time_note None key path d = []
-time_note (Some time) key path d = usual_note (whole time) path key d
-
--- the notes on the least and the greatest lifetime, which may only be the lifetime
-abbrev pub limit_notes : Option ℕ → ObjectNotes
-limit_notes lifetime path d =
-    time_note lifetime (codes "min-valid-lifetime") path d
-    ++ time_note lifetime (codes "max-valid-lifetime") path d
-
--- the lifetime in the value of `Dhcp4`
-abbrev pub lifetime_in : Data → Option ℕ
-lifetime_in d = number_if_given 1 longest_lease 7200 (get (codes "valid-lifetime") d)
+share_notes (Some keys) path d = if keys.calculated then [] else unused_shares path d
 
 -- the notes on what other services and hooks do, and on where the configuration is kept
 unfoldable pub service_notes : ObjectNotes
@@ -228,12 +202,6 @@ service_notes path d =
     path (codes "host-reservation-identifiers")
     ++ notes_at hook_notes path (codes "hooks-libraries") d
 
--- the notes on such keys of `Dhcp4`
-unfoldable pub server_values : ObjectNotes
-server_values path d =
-    service_notes path d
-    ++ share_notes (flag_given (get (codes "calculate-tee-times") d)) path d
-
 -- ---- such keys of a subnet, by what holds for the whole server
 
 -- the server's address, by the value of `Dhcp4` and an address that is given beside it
@@ -243,47 +211,27 @@ kea_address server d = do
   options ← kea_options true known (get (codes "option-data") d)
   server_address options server
 
--- T1 in the value of `Dhcp4`
-unfoldable pub renew_in : Data → Option ℕ
-renew_in d = do
-  calculated ← flag_given (get (codes "calculate-tee-times") d)
-  lifetime ← lifetime_in d
-  number_if_given 1 longest_lease (usual_renew calculated (shares_given d) lifetime) (get (codes "renew-timer") d)
-
--- T2 in the value of `Dhcp4`
-unfoldable pub rebind_in : Data → Option ℕ
-rebind_in d = do
-  calculated ← flag_given (get (codes "calculate-tee-times") d)
-  lifetime ← lifetime_in d
-  number_if_given 1 longest_lease (usual_rebind calculated (shares_given d) lifetime) (get (codes "rebind-timer") d)
-
 -- the lease and offer times in the value of `Dhcp4`
 unfoldable pub all_times : Data → Option Times
 all_times d = do
-  calculated ← flag_given (get (codes "calculate-tee-times") d)
-  kea_times calculated d
+  keys ← kea_keys usual_keys d
+  kea_times keys d
 
 -- what holds for the whole server by the value of `Dhcp4`, each part if it is right by itself
 unfoldable pub around_of : Option ℕ → Data → Around
 around_of server d =
-    record { address = kea_address server d; times = all_times d; calculated = flag_given (get (codes "calculate-tee-times") d); shares = shares_given d; outside = flag_given (get (codes "reservations-out-of-pool") d); kinds = kinds_given (get (codes "host-reservation-identifiers") d); bare = server_has_bare_names d; policy = kea_policy d; boot = kea_boot d; lifetime = lifetime_in d; renew = renew_in d; rebind = rebind_in d }
+    record { address = kea_address server d; times = all_times d; keys = kea_keys usual_keys d; by_class = has_class_lifetime d; outside = flag_given (get (codes "reservations-out-of-pool") d); kinds = kinds_given (get (codes "host-reservation-identifiers") d); bare = server_has_bare_names d; policy = kea_policy d; boot = kea_boot d }
 
 -- what holds for the whole server, if all of it is right
 unfoldable pub above_by : Around → Option Above
 above_by around = do
   server ← around.address
   times ← around.times
-  calculated ← around.calculated
+  keys ← around.keys
   outside ← around.outside
   policy ← around.policy
   boot ← around.boot
-  Some (record { server = server; times = times; calculated = calculated; shares = around.shares; outside = outside; kinds = around.kinds; bare = around.bare; policy = policy; boot = boot })
-
--- the note on whether the times of a subnet are calculated, which is as for the whole server
-abbrev pub calculated_notes : Option Bool → ObjectNotes
-calculated_notes None path d = []
-calculated_notes (Some calculated) path d =
-    usual_note (flag calculated) path (codes "calculate-tee-times") d
+  Some (record { server = server; times = times; keys = keys; by_class = around.by_class; outside = outside; kinds = around.kinds; bare = around.bare; policy = policy; boot = boot })
 
 -- the notes on the policy of a subnet or a network, which may only be that of the whole server, if
 -- that is known
@@ -302,26 +250,10 @@ interface_notes (Some server) (Some prefix) path d =
     note_unless (is_at_server server prefix (get (codes "interface") d)) Unknown path
     (codes "interface")
 
--- the notes on the times of a subnet, which may only be those of the whole server
-unfoldable pub repeated_notes : Around → ObjectNotes
-repeated_notes around path d =
-    time_note around.lifetime (codes "valid-lifetime") path d
-    ++ limit_notes around.lifetime path d
-    ++ time_note around.renew (codes "renew-timer") path d
-    ++ time_note around.rebind (codes "rebind-timer") path d
-
--- the notes on what a subnet or a network may only repeat of the whole server
-unfoldable pub inherited_notes : Around → ObjectNotes
-inherited_notes around path d =
-    repeated_notes around path d
-    ++ calculated_notes around.calculated path d
-    ++ repeated_shares around.calculated around.shares path d
-    ++ policy_notes around.policy path d
-
 -- the notes on such keys of a subnet
 unfoldable pub subnet_values : Around → ObjectNotes
 subnet_values around path d =
-    inherited_notes around path d
+    policy_notes around.policy path d
     ++ interface_notes around.address (get (codes "subnet") d >>= subnet_prefix) path d
 
 -- ---- values that are wrong by themselves
@@ -355,21 +287,70 @@ listed_notes most notes key path d =
     note_unless (is_some (items_or_none most (get key d))) Wrong path key
     ++ notes_of_each notes path key d
 
--- the notes on the lease times in the value of `Dhcp4`, each by itself
-unfoldable pub lease_notes : ObjectNotes
-lease_notes path d =
+-- the notes on the keys of a lifetime, each by itself
+unfoldable pub lifetime_notes : ObjectNotes
+lifetime_notes path d =
     number_note 1 longest_lease (codes "valid-lifetime") path d
-    ++ limit_notes (lifetime_in d) path d
-    ++ number_note 1 longest_lease (codes "renew-timer") path d
-    ++ number_note 1 longest_lease (codes "rebind-timer") path d
+    ++ number_note 1 longest_lease (codes "min-valid-lifetime") path d
+    ++ number_note 1 longest_lease (codes "max-valid-lifetime") path d
+
+-- the notes on the keys of T1 and T2, each by itself: a time has at least so many seconds
+unfoldable pub timer_notes : ℕ → ObjectNotes
+timer_notes least path d =
+    number_note least longest_lease (codes "renew-timer") path d
+    ++ number_note least longest_lease (codes "rebind-timer") path d
+    ++ flag_note (codes "calculate-tee-times") path d
+
+-- what the keys of a value say, if it is known what they say above it
+unfoldable pub keys_below : Option TermKeys → Data → Option TermKeys
+keys_below given d = do
+  above ← given
+  keys_given above d
+
+-- what the keys say passes a test, or it is not known
+abbrev pub pass_if_known : (TermKeys → Bool) → Option TermKeys → Bool
+pass_if_known test None = true
+pass_if_known test (Some keys) = test keys
+
+-- the least lifetime is at most the usual one
+abbrev pub is_above_least : TermKeys → Bool
+is_above_least keys = nat_le (lifetime_of keys).least keys.usual
+
+-- the usual lifetime is at most the greatest one
+abbrev pub is_below_most : TermKeys → Bool
+is_below_most keys = nat_le keys.usual (lifetime_of keys).most
+
+-- the notes on keys that say this, and do not go together
+unfoldable pub order_notes : Option TermKeys → ObjectNotes
+order_notes given path d =
+    note_unless (pass_if_known is_above_least given) Wrong path
+    (bound_key (codes "min-valid-lifetime") d)
+    ++ note_unless (pass_if_known is_below_most given) Wrong path
+    (bound_key (codes "max-valid-lifetime") d)
+    ++ note_unless (pass_if_known (λ keys. timers_rise keys.renew keys.rebind) given) Wrong path
+    (timer_key d)
+    ++ note_unless (pass_if_known (λ keys. has_usual_shares keys.calculated keys.shares) given)
+    Wrong path (share_key d)
+
+-- the notes on the keys for the times of leases, where they say this above the value: each by itself,
+-- and then those that do not go together
+unfoldable pub term_notes : ℕ → Option TermKeys → ObjectNotes
+term_notes least above path d =
+    lifetime_notes path d ++ timer_notes least path d ++ order_notes (keys_below above d) path d
+
+-- the notes on the lifetime of a class: its keys by themselves, and then one of them if they do not go
+-- together
+unfoldable pub class_lifetime_notes : ObjectNotes
+class_lifetime_notes path d =
+    or_wrong (is_some (class_lifetime d)) (path_below path (codes "valid-lifetime"))
+    (lifetime_notes path d)
 
 -- the notes on the lease and offer times in the value of `Dhcp4`: each by itself, and then one
 -- of them if they are not in order
 unfoldable pub server_times : ObjectNotes
 server_times path d =
     or_wrong (is_some (all_times d)) (path_below path (times_key d))
-    (flag_note (codes "calculate-tee-times") path d
-    ++ lease_notes path d
+    (term_notes 1 (Some usual_keys) path d
     ++ number_note 0 86400 (codes "offer-lifetime") path d
     ++ number_note 1 31536000 (codes "decline-probation-period") path d)
 
@@ -487,6 +468,7 @@ class_notes known path d =
     ++ note_unless (is_some (get (codes "name") d >>= class_name_in)) Wrong path (codes "name")
     ++ text_note (codes "test") path d
     ++ boot_notes path d
+    ++ class_lifetime_notes path d
     ++ definition_notes true path d
     ++ option_notes false (right_definitions true d ++ known) path d)
 
@@ -521,6 +503,11 @@ kea_below (Some above) known d = do
   _ ← kea_subnet above known d
   Some tt
 
+-- the notes on the keys for the times of leases in a subnet, where they say this above it
+unfoldable pub subnet_times : Option TermKeys → ObjectNotes
+subnet_times above path d =
+    term_notes 0 above path d ++ share_notes (keys_below above d) path d
+
 -- the notes on the values of a subnet that are wrong by themselves
 unfoldable pub subnet_own : ObjectNotes
 subnet_own path d =
@@ -545,6 +532,7 @@ subnet_notes around known path d =
     object_notes (is_some (kea_below (above_by around) known d)) path d
     (own_notes subnet_keys path d
     ++ subnet_values around path d
+    ++ subnet_times around.keys path d
     ++ subnet_own path d
     ++ beside_note around.outside around.kinds around.bare known path d
     ++ subnet_lists known around.kinds around.bare path d)
@@ -573,7 +561,7 @@ inside_notes (Some server) path d =
 -- whole server
 unfoldable pub network_values : Around → ObjectNotes
 network_values around path d =
-    inherited_notes around path d
+    policy_notes around.policy path d
     ++ inside_notes around.address path d
 
 -- the notes on the values of a network that are wrong by themselves
@@ -597,10 +585,17 @@ boot_in given d = do
   boot ← kea_boot d
   Some (boot_or boot above)
 
+-- what the keys for the times of leases say above the members of a network, if all that says so is
+-- right
+unfoldable pub keys_in_network : Option TermKeys → Data → Option TermKeys
+keys_in_network given d = do
+  above ← given
+  kea_keys above d
+
 -- what holds above the members of a network, each part if it is right by itself
 unfoldable pub around_members : Around → Data → Around
 around_members around d =
-    record { address = around.address; times = around.times; calculated = around.calculated; shares = around.shares; outside = outside_in around.outside d; kinds = around.kinds; bare = has_bare_names around.bare d; policy = around.policy; boot = boot_in around.boot d; lifetime = around.lifetime; renew = around.renew; rebind = around.rebind }
+    record { address = around.address; times = around.times; keys = keys_in_network around.keys d; by_class = around.by_class; outside = outside_in around.outside d; kinds = around.kinds; bare = has_bare_names around.bare d; policy = around.policy; boot = boot_in around.boot d }
 
 -- the notes on the options, the members and the relay of a network, by what holds for the whole server
 -- and these definitions
@@ -623,6 +618,7 @@ network_notes around known path d =
     object_notes (is_some (network_below (above_by around) known d)) path d
     (own_notes network_keys path d
     ++ network_values around path d
+    ++ term_notes 0 around.keys path d
     ++ network_own path d
     ++ network_lists around known path d)
 
@@ -660,7 +656,7 @@ unfoldable pub server_notes : Option ℕ → ObjectNotes
 server_notes server path d =
     object_notes (is_some (kea_dhcp4 server d)) path d
     (own_notes server_keys path d
-    ++ server_values path d
+    ++ service_notes path d
     ++ server_times path d
     ++ server_flags path d
     ++ server_lists server path d)

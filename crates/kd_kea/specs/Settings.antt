@@ -14,11 +14,12 @@ use Rattle.kd_kea.specs.HostKinds.{finds_reservations, kinds_given}
 use Rattle.kd_kea.specs.HostName.{server_has_bare_names}
 use Rattle.kd_kea.specs.Hooks.{hooks_are_quiet}
 use Rattle.kd_kea.specs.Keys.{Plain, flag, keys_are_read, no_list}
+use Rattle.kd_kea.specs.Lifetimes.{has_class_lifetime, kea_keys, usual_keys}
 use Rattle.kd_kea.specs.Network.{kea_subnets}
 use Rattle.kd_kea.specs.Options.{kea_options, sent_to_all, server_address}
 use Rattle.kd_kea.specs.Policy.{kea_policy}
 use Rattle.kd_kea.specs.Tables.{root_keys, server_keys}
-use Rattle.kd_kea.specs.Times.{has_usual_shares, kea_times, shares_given}
+use Rattle.kd_kea.specs.Times.{kea_times}
 use Rattle.kd_kea.specs.Values.{flag_given, is_plain_if_given}
 use Rattle.kd_kea.specs.declared.objects.definition.Definition.{Definition}
 use Rattle.kd_kea.specs.declared.objects.subnet.Above.{Above}
@@ -53,16 +54,15 @@ kea_settings_with known options above d = do
 unfoldable pub kea_dhcp4 : Option ℕ → Data → Option Settings
 kea_dhcp4 server d = do
   _ ← has_server_form d
-  calculated ← flag_given (get (codes "calculate-tee-times") d)
-  _ ← must (has_usual_shares calculated d)
-  times ← kea_times calculated d
+  keys ← kea_keys usual_keys d
+  times ← kea_times keys d
   outside ← flag_given (get (codes "reservations-out-of-pool") d)
   policy ← kea_policy d
   boot ← kea_boot d
   known ← kea_known (get (codes "option-def") d)
   options ← kea_options true known (get (codes "option-data") d)
   address ← server_address options server
-  kea_settings_with known options (record { server = address; times = times; calculated = calculated; shares = shares_given d; outside = outside; kinds = kinds_given (get (codes "host-reservation-identifiers") d); bare = server_has_bare_names d; policy = policy; boot = boot }) d
+  kea_settings_with known options (record { server = address; times = times; keys = keys; by_class = has_class_lifetime d; outside = outside; kinds = kinds_given (get (codes "host-reservation-identifiers") d); bare = server_has_bare_names d; policy = policy; boot = boot }) d
 
 -- the settings that the value of a whole text describes
 unfoldable pub kea_root : Option ℕ → Data → Option Settings

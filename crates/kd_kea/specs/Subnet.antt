@@ -4,7 +4,6 @@ use Rattle.std.specs.List.{list_all, list_any}
 use Rattle.serde_json.specs.Data.{Data, string}
 use Rattle.serde_json.specs.Find.{get}
 use Rattle.kd_classes.specs.Boot.{boot_or}
-use Rattle.kd_classes.specs.declared.boot.Boot.{Boot}
 use Rattle.kd_config.specs.Address.{has_address}
 use Rattle.kd_config.specs.Apart.{has}
 use Rattle.kd_config.specs.declared.pool.Pool.{Pool}
@@ -18,6 +17,7 @@ use Rattle.kd_json.specs.Values.{number_if_given, text_if_given}
 use Rattle.kd_kea.specs.Boot.{kea_boot}
 use Rattle.kd_kea.specs.HostName.{has_bare_names}
 use Rattle.kd_kea.specs.Keys.{is_plain, keys_are_read, word}
+use Rattle.kd_kea.specs.Lifetimes.{kea_keys, term_unless_alike}
 use Rattle.kd_kea.specs.Options.{kea_options}
 use Rattle.kd_kea.specs.Parts.{parts_of_all}
 use Rattle.kd_kea.specs.Policy.{repeats_policy}
@@ -25,10 +25,8 @@ use Rattle.kd_kea.specs.Pool.{kea_pool}
 use Rattle.kd_kea.specs.Relay.{relays_of}
 use Rattle.kd_kea.specs.Reservation.{kea_reservation}
 use Rattle.kd_kea.specs.Tables.{subnet_keys}
-use Rattle.kd_kea.specs.Times.{repeats_times}
 use Rattle.kd_kea.specs.Values.{flag_or, unless_empty}
 use Rattle.kd_kea.specs.declared.objects.definition.Definition.{Definition}
-use Rattle.kd_kea.specs.declared.objects.host_kinds.HostKinds.{HostKinds}
 use Rattle.kd_kea.specs.declared.objects.subnet.Above.{Above}
 use Rattle.kd_wire.specs.Steps.{◌>>=◌}
 
@@ -55,34 +53,41 @@ abbrev pub stand_beside : Bool → List Pool → List Reservation → Bool
 stand_beside outside pools reservations =
     not outside || list_all (lies_outside pools) reservations
 
--- the subnet of a prefix and a class with the lists in a value, by these definitions of options;
--- reservations are looked for by these kinds of identity, `bare` says that host names have no
--- suffix, and `above` is what is given to the boot fields above the subnet. It is in no network
-unfoldable pub kea_subnet_with : List Definition → HostKinds → Bool → Bool → Boot → Prefix → Option (List ℕ) → Data → Option Subnet
-kea_subnet_with known kinds bare outside above prefix class d = do
+-- what holds in a subnet, or in a network above its members: what its own keys say, and else what holds
+-- above it
+unfoldable pub above_within : Above → Data → Option Above
+above_within above d = do
+  keys ← kea_keys above.keys d
+  outside ← flag_or above.outside (get (codes "reservations-out-of-pool") d)
+  boot ← kea_boot d
+  Some (record { server = above.server; times = above.times; keys = keys; by_class = above.by_class; outside = outside; kinds = above.kinds; bare = has_bare_names above.bare d; policy = above.policy; boot = boot_or boot above.boot })
+
+-- the subnet of a prefix and a class with the lists in a value, by these definitions of options,
+-- where this holds in it. It is in no network
+unfoldable pub kea_subnet_with : List Definition → Above → Prefix → Option (List ℕ) → Data → Option Subnet
+kea_subnet_with known within prefix class d = do
   relays ← relays_of (get (codes "relay") d)
   pools ← list_of 64 (kea_pool known) (get (codes "pools") d) >>= parts_of_all
-  reservations ← list_of 4096 (kea_reservation known kinds bare) (get (codes "reservations") d)
-  _ ← must (stand_beside outside pools reservations)
+  reservations ← list_of 4096 (kea_reservation known within.kinds within.bare) (get (codes "reservations") d)
+  _ ← must (stand_beside within.outside pools reservations)
   options ← kea_options false known (get (codes "option-data") d)
-  boot ← kea_boot d
-  Some (record { prefix = prefix; relays = relays; class = class; pools = pools; reservations = reservations; options = options; network = 0; shared = []; boot = boot_or boot above })
+  Some (record { prefix = prefix; relays = relays; class = class; pools = pools; reservations = reservations; options = options; network = 0; shared = []; boot = within.boot; term = term_unless_alike within })
 
 -- a value has the keys of a subnet; its `id` is checked but not used
 unfoldable pub has_subnet_form : Above → Data → Option (Unit {0})
 has_subnet_form above d = do
   _ ← must (keys_are_read subnet_keys d)
-  _ ← repeats_times above.calculated above.shares above.times d
   _ ← must (repeats_policy above.policy d)
   _ ← number_if_given 1 4294967294 1 (get (codes "id") d)
   Some tt
 
--- the subnet that a value describes, below what holds for the whole server; an empty class is none
+-- the subnet that a value describes, below what holds for the whole server or its network; an empty
+-- class is none
 unfoldable pub kea_subnet : Above → List Definition → Data → Option Subnet
 kea_subnet above known d = do
   _ ← has_subnet_form above d
   prefix ← get (codes "subnet") d >>= subnet_prefix
   _ ← must (is_at_server above.server prefix (get (codes "interface") d))
   class ← text_if_given (get (codes "client-class") d)
-  outside ← flag_or above.outside (get (codes "reservations-out-of-pool") d)
-  kea_subnet_with known above.kinds (has_bare_names above.bare d) outside above.boot prefix (unless_empty class) d
+  within ← above_within above d
+  kea_subnet_with known within prefix (unless_empty class) d

@@ -18,13 +18,18 @@ boot_keys =
     ∷ (codes "boot-file-name", served)
     ∷ []
 
--- the keys that the whole server, a shared network and a subnet have in common
-abbrev pub shared_keys : List (List ℕ × KeyUse)
-shared_keys =
+-- how long leases last
+abbrev pub lifetime_keys : List (List ℕ × KeyUse)
+lifetime_keys =
     (codes "valid-lifetime", served)
     ∷ (codes "min-valid-lifetime", served)
     ∷ (codes "max-valid-lifetime", served)
-    ∷ (codes "renew-timer", served)
+    ∷ []
+
+-- the keys that the whole server, a shared network and a subnet have in common
+abbrev pub shared_keys : List (List ℕ × KeyUse)
+shared_keys =
+    (codes "renew-timer", served)
     ∷ (codes "rebind-timer", served)
     ∷ (codes "calculate-tee-times", served)
     ∷ (codes "t1-percent", served)
@@ -42,7 +47,7 @@ shared_keys =
     ∷ (codes "cache-threshold", usual (whole 0 ∷ fraction QUARTER ∷ []))
     ∷ (codes "cache-max-age", usual (whole 0 ∷ []))
     ∷ (codes "allocator", usual (word (codes "iterative") ∷ []))
-    ∷ remarks ++ boot_keys
+    ∷ remarks ++ boot_keys ++ lifetime_keys
 
 -- the keys of `Dhcp4`
 abbrev pub server_keys : List (List ℕ × KeyUse)
@@ -118,7 +123,7 @@ class_keys =
     ∷ (codes "only-if-required", usual (flag false ∷ []))
     ∷ (codes "option-def", served)
     ∷ (codes "only-in-additional-list", usual (flag false ∷ []))
-    ∷ remarks ++ boot_keys
+    ∷ remarks ++ boot_keys ++ lifetime_keys
 
 -- the keys that ask for further classes, each empty
 abbrev pub required_keys : List (List ℕ × KeyUse)

@@ -1,25 +1,17 @@
 -- The lease and offer times in a configuration of Kea's.
-use Rattle.std.specs.Prelude.{ℕ, ◌*◌, ◌/◌, ◌==◌, Bool, not, ◌&&◌, ◌||◌, nat_le, nat_lt, pos, Float, codes, Option, Some, None, is_some, List, if◌then◌else◌}
-use Rattle.std.specs.Float.{binary64, float_round, float_to_unsigned}
-use Rattle.std.specs.Float.Ieee.{lt, mul, of_int}
-use Rattle.std.specs.Int.{w32}
+use Rattle.std.specs.Prelude.{ℕ, ◌*◌, ◌/◌, ◌==◌, Bool, not, ◌&&◌, ◌||◌, nat_le, nat_lt, Float, codes, Option, Some, None, is_some, List, if◌then◌else◌}
+use Rattle.std.specs.Float.Ieee.{lt}
 use Rattle.serde_json.specs.Data.{Data, number}
 use Rattle.serde_json.specs.Find.{get, to_float}
 use Rattle.kd_config.specs.Sound.{longest_lease}
+use Rattle.kd_config.specs.Term.{share_of}
 use Rattle.kd_config.specs.declared.times.Times.{Times}
 use Rattle.kd_json.specs.Steps.{must}
 use Rattle.kd_json.specs.Values.{number_if_given}
-use Rattle.kd_kea.specs.Keys.{flag, fraction, whole}
+use Rattle.kd_kea.specs.declared.objects.lifetimes.TermKeys.{TermKeys}
 use Rattle.kd_kea.specs.declared.objects.times.Shares.{Shares}
-use Rattle.kd_kea.specs.declared.objects.times.TheConstants.{HALF, NOTHING, SEVEN_EIGHTHS, WHOLE}
-use Rattle.kd_kea.specs.Values.{is_plain_if_given}
+use Rattle.kd_kea.specs.declared.objects.times.TheConstants.{NOTHING, SEVEN_EIGHTHS, WHOLE}
 use Rattle.kd_wire.specs.Steps.{◌>>=◌}
-
--- the least and the greatest lifetime, if they are given, are the lifetime
-abbrev pub has_one_lifetime : ℕ → Data → Bool
-has_one_lifetime lifetime d =
-    is_plain_if_given (whole lifetime) (get (codes "min-valid-lifetime") d)
-    && is_plain_if_given (whole lifetime) (get (codes "max-valid-lifetime") d)
 
 -- the share at a key: the usual one if there is none, and nothing if its value is no number
 abbrev pub share_given : Float → Option Data → Float
@@ -27,33 +19,33 @@ share_given usual None = usual
 share_given usual (Some (number n)) = to_float n
 share_given usual (Some d) = NOTHING
 
--- the shares of T1 and T2 in the lifetime that a value gives; a half and seven eighths are the usual ones
-abbrev pub shares_given : Data → Shares
-shares_given d =
-    record { renew = share_given HALF (get (codes "t1-percent") d); rebind = share_given SEVEN_EIGHTHS (get (codes "t2-percent") d) }
+-- the shares of T1 and T2 in the lifetime that a value gives; those above it are the usual ones
+abbrev pub shares_given : Shares → Data → Shares
+shares_given above d =
+    record { renew = share_given above.renew (get (codes "t1-percent") d); rebind = share_given above.rebind (get (codes "t2-percent") d) }
+
+-- a share is some of the lifetime, and not the whole
+abbrev pub is_share : Float → Bool
+is_share share = lt NOTHING share && lt share WHOLE
 
 -- T1 has a share, T2 a larger one, and neither is the whole lifetime
 abbrev pub are_shares : Shares → Bool
 are_shares shares =
     lt NOTHING shares.renew && lt shares.renew shares.rebind && lt shares.rebind WHOLE
 
--- the key of shares that Kea does not take: T1's, if it is given and T2's is right by itself
+-- the key of shares that Kea does not take: T1's, if it is given and T2's is right by itself; where
+-- neither is given, the one by which they are used
 abbrev pub share_key : Data → List ℕ
 share_key d =
-    if lt NOTHING (share_given SEVEN_EIGHTHS (get (codes "t2-percent") d))
-    && lt (share_given SEVEN_EIGHTHS (get (codes "t2-percent") d)) WHOLE
-    && is_some (get (codes "t1-percent") d) then codes "t1-percent" else codes "t2-percent"
+    if not (is_share (share_given SEVEN_EIGHTHS (get (codes "t2-percent") d))) then codes "t2-percent"
+    else if is_some (get (codes "t1-percent") d) then codes "t1-percent"
+    else if is_some (get (codes "t2-percent") d) then codes "t2-percent"
+    else codes "calculate-tee-times"
 
 -- the shares of T1 and T2 are ones that Kea takes, or they are not used because the times are not
 -- calculated
-abbrev pub has_usual_shares : Bool → Data → Bool
-has_usual_shares calculated d = not calculated || are_shares (shares_given d)
-
--- a share of the lifetime in whole seconds, as Kea calculates it: the product of two floating-point
--- numbers, rounded to the nearest whole number, and from a half upwards
-abbrev pub share_of : Float → ℕ → ℕ
-share_of share lifetime =
-    float_to_unsigned w32 (float_round binary64 (mul binary64 share (of_int binary64 (pos lifetime))))
+abbrev pub has_usual_shares : Bool → Shares → Bool
+has_usual_shares calculated shares = not calculated || are_shares shares
 
 -- T1 if it is not given: its share of the lifetime if it is calculated, else half of it
 abbrev pub usual_renew : Bool → Shares → ℕ → ℕ
@@ -92,32 +84,13 @@ times_key d =
 abbrev pub offer_time : ℕ → ℕ
 offer_time given = (if given == 0 then 60 else given)
 
--- the lease and offer times of the whole server; a timer of 0 asks Kea not to send it, and is not
--- allowed
-unfoldable pub kea_times : Bool → Data → Option Times
-kea_times calculated d = do
-  lifetime ← number_if_given 1 longest_lease 7200 (get (codes "valid-lifetime") d)
-  _ ← must (has_one_lifetime lifetime d)
-  renew ← number_if_given 1 longest_lease (usual_renew calculated (shares_given d) lifetime) (get (codes "renew-timer") d)
-  rebind ← number_if_given 1 longest_lease (usual_rebind calculated (shares_given d) lifetime) (get (codes "rebind-timer") d)
-  _ ← must (are_in_order (is_asked_for calculated (get (codes "renew-timer") d)) (is_asked_for calculated (get (codes "rebind-timer") d)) renew rebind lifetime)
+-- the lease and offer times of the whole server, where the keys for them say this; a timer of 0 asks
+-- Kea not to send it, and is not allowed
+unfoldable pub kea_times : TermKeys → Data → Option Times
+kea_times keys d = do
+  renew ← number_if_given 1 longest_lease (usual_renew keys.calculated keys.shares keys.usual) (get (codes "renew-timer") d)
+  rebind ← number_if_given 1 longest_lease (usual_rebind keys.calculated keys.shares keys.usual) (get (codes "rebind-timer") d)
+  _ ← must (are_in_order (is_asked_for keys.calculated (get (codes "renew-timer") d)) (is_asked_for keys.calculated (get (codes "rebind-timer") d)) renew rebind keys.usual)
   offer ← number_if_given 0 86400 0 (get (codes "offer-lifetime") d)
   decline_hold ← number_if_given 1 31536000 86400 (get (codes "decline-probation-period") d)
-  Some (record { lifetime = lifetime; renew = renew; rebind = rebind; offer_hold = offer_time offer; decline_hold = decline_hold })
-
--- the shares of a subnet, if they are given, are those of the whole server, or they are not used
-abbrev pub repeats_shares : Bool → Shares → Data → Bool
-repeats_shares calculated shares d =
-    not calculated
-    || (is_plain_if_given (fraction shares.renew) (get (codes "t1-percent") d)
-    && is_plain_if_given (fraction shares.rebind) (get (codes "t2-percent") d))
-
--- the times of a subnet, if they are given, are those of the whole server
-unfoldable pub repeats_times : Bool → Shares → Times → Data → Option (Unit {0})
-repeats_times calculated shares times d = do
-  _ ← must (is_plain_if_given (whole times.lifetime) (get (codes "valid-lifetime") d))
-  _ ← must (has_one_lifetime times.lifetime d)
-  _ ← must (is_plain_if_given (whole times.renew) (get (codes "renew-timer") d))
-  _ ← must (is_plain_if_given (whole times.rebind) (get (codes "rebind-timer") d))
-  _ ← must (is_plain_if_given (flag calculated) (get (codes "calculate-tee-times") d))
-  must (repeats_shares calculated shares d)
+  Some (record { lifetime = keys.usual; renew = renew; rebind = rebind; offer_hold = offer_time offer; decline_hold = decline_hold })

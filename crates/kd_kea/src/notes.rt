@@ -9,6 +9,7 @@ pub mod laws;
 mod list;
 mod networks;
 mod objects;
+mod times;
 mod values;
 mod walk;
 mod wholes;

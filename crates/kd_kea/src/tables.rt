@@ -60,11 +60,15 @@ const BOOT: &[Row] = &[
     ("boot-file-name", KeyRule::Served),
 ];
 
-// Keys that the whole server, a shared network and a subnet have in common.
-const SHARED: &[Row] = &[
+// How long leases last.
+const LIFETIME: &[Row] = &[
     ("valid-lifetime", KeyRule::Served),
     ("min-valid-lifetime", KeyRule::Served),
     ("max-valid-lifetime", KeyRule::Served),
+];
+
+// Keys that the whole server, a shared network and a subnet have in common.
+const SHARED: &[Row] = &[
     ("renew-timer", KeyRule::Served),
     ("rebind-timer", KeyRule::Served),
     ("calculate-tee-times", KeyRule::Served),
@@ -220,17 +224,17 @@ const RESERVATION: &[Row] = &[
 // The tables of each kind of object.
 const WHOLE_TABLES: &[&[Row]] = &[ROOT];
 
-const SERVER_TABLES: &[&[Row]] = &[SERVER, SHARED, REMARKS, BOOT];
+const SERVER_TABLES: &[&[Row]] = &[SERVER, SHARED, REMARKS, BOOT, LIFETIME];
 
 const OPTION_TABLES: &[&[Row]] = &[OPTION, REMARKS];
 
 const DEFINITION_TABLES: &[&[Row]] = &[DEFINITION, REMARKS];
 
-const CLASS_TABLES: &[&[Row]] = &[CLASS, REMARKS, BOOT];
+const CLASS_TABLES: &[&[Row]] = &[CLASS, REMARKS, BOOT, LIFETIME];
 
-const SUBNET_TABLES: &[&[Row]] = &[SUBNET, REQUIRED, SHARED, REMARKS, BOOT];
+const SUBNET_TABLES: &[&[Row]] = &[SUBNET, REQUIRED, SHARED, REMARKS, BOOT, LIFETIME];
 
-const NETWORK_TABLES: &[&[Row]] = &[NETWORK, REQUIRED, SHARED, REMARKS, BOOT];
+const NETWORK_TABLES: &[&[Row]] = &[NETWORK, REQUIRED, SHARED, REMARKS, BOOT, LIFETIME];
 
 const RELAY_TABLES: &[&[Row]] = &[RELAY];
 

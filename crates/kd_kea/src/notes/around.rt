@@ -1,22 +1,22 @@
 ghost use Rattle.std.specs.Prelude.{◌≡◌, IfOk};
 ghost use Rattle.serde_json.specs.View.{view};
+ghost use Rattle.kd_kea.specs.Lifetimes.{kea_keys};
 ghost use Rattle.kd_kea.specs.Notes.{above_by, around_of, is_not_failed, kea_address, kea_below, kea_beside, all_times};
 
 use crate::objects::alone::read_alone;
 use crate::objects::boot::written_boot;
 use crate::objects::definition::{Definition, known_definitions};
-use crate::objects::flags::{flag_at, flag_in, flag_or_default};
+use crate::objects::flags::{flag_in, flag_or_default};
 use crate::objects::host_kinds::{HostKinds, kinds_of_server};
 use crate::objects::host_name::{names_are_bare, server_names_are_bare};
+use crate::objects::lifetimes::{TermKeys, is_lifetime_by_class, keys_of};
 use crate::objects::options::options_of;
 use crate::objects::policy::{Policy, written_policy};
 use crate::objects::reservation::ReservationReader;
 use crate::objects::scope::scope_of_all;
 use crate::objects::settings::address_of;
 use crate::objects::subnet::{Above, SubnetReader, may_be_beside, pools_of};
-use crate::objects::times::{
-    Shares, shares_in, times_of, written_lifetime, written_rebind, written_renew,
-};
+use crate::objects::times::times_of;
 use kd_classes::Boot;
 use kd_config::Times;
 use kd_json::objects::faults::SettingsFault;
@@ -32,10 +32,10 @@ pub(crate) struct Around {
     pub(crate) address: Option<u32>,
     // The lease and offer times.
     pub(crate) times: Option<Times>,
-    // T1 and T2 are calculated with Kea's rounding.
-    pub(crate) calculated: Option<bool>,
-    // The shares of the lifetime by which they are.
-    pub(crate) shares: Shares,
+    // What the keys for the times of leases say, unless a subnet says something else.
+    pub(crate) keys: Option<TermKeys>,
+    // A class has a lifetime.
+    pub(crate) by_class: bool,
     // Reservations are looked for outside pools alone, unless a subnet says otherwise.
     pub(crate) outside: Option<bool>,
     // By which kinds of identity reservations are looked for.
@@ -46,10 +46,6 @@ pub(crate) struct Around {
     pub(crate) policy: Option<Policy>,
     // What is given to the boot fields, unless a subnet gives something else.
     pub(crate) boot: Option<Boot>,
-    // The lease time, T1 and T2, in seconds.
-    pub(crate) lifetime: Option<u32>,
-    pub(crate) renew: Option<u32>,
-    pub(crate) rebind: Option<u32>,
 }
 
 // Reads what holds for the whole server, whose address is the given one if no option has another.
@@ -64,16 +60,19 @@ pub(super) fn read_around(
     Ok(Around {
         address: read_alone(alloc, &AddressReader { server }, dhcp4)?,
         times: read_alone(alloc, &TimesReader, dhcp4)?,
-        calculated: flag_in(dhcp4, "calculate-tee-times"),
-        shares: shares_in(dhcp4),
+        keys: read_alone(
+            alloc,
+            &KeysReader {
+                above: TermKeys::usual(),
+            },
+            dhcp4,
+        )?,
+        by_class: is_lifetime_by_class(dhcp4),
         outside: flag_in(dhcp4, "reservations-out-of-pool"),
         kinds: kinds_of_server(dhcp4),
         bare: server_names_are_bare(dhcp4),
         policy: written_policy(dhcp4),
         boot: written_boot(dhcp4),
-        lifetime: written_lifetime(dhcp4),
-        renew: written_renew(dhcp4),
-        rebind: written_rebind(dhcp4),
     })
 }
 
@@ -96,6 +95,27 @@ impl EntryReader for AddressReader {
     }
 }
 
+// Reads what the keys for the times of leases say together, where they say this above the value.
+#[derive(Clone, Copy)]
+pub(super) struct KeysReader {
+    pub(super) above: TermKeys,
+}
+
+impl EntryReader for KeysReader {
+    type Entry = TermKeys;
+
+    ghost means = { λ reader. kea_keys reader.above };
+
+    fn read(
+        &self,
+        alloc: Global,
+        object: &Value,
+        at: &Place<'_>,
+    ) -> Result<TermKeys, SettingsFault> {
+        keys_of(alloc, object, at, self.above)
+    }
+}
+
 // Reads the lease and offer times of the whole server.
 #[derive(Clone, Copy)]
 pub(super) struct TimesReader;
@@ -107,8 +127,8 @@ impl EntryReader for TimesReader {
 
     #[tactic(auto, unfolding(crate::specs::Notes::all_times))]
     fn read(&self, alloc: Global, dhcp4: &Value, at: &Place<'_>) -> Result<Times, SettingsFault> {
-        let calculated = flag_at(alloc, dhcp4, at, "calculate-tee-times")?;
-        times_of(alloc, dhcp4, at, calculated)
+        let keys = keys_of(alloc, dhcp4, at, TermKeys::usual())?;
+        times_of(alloc, dhcp4, at, keys)
     }
 }
 
@@ -144,15 +164,15 @@ pub(super) fn above_in(around: Around) -> Option<Above>
 {
     let server = around.address?;
     let times = around.times?;
-    let calculated = around.calculated?;
+    let keys = around.keys?;
     let outside = around.outside?;
     let policy = around.policy?;
     let boot = around.boot?;
     Some(Above {
         server,
         times,
-        calculated,
-        shares: around.shares,
+        keys,
+        by_class: around.by_class,
         outside,
         kinds: around.kinds,
         bare: around.bare,

@@ -3,18 +3,20 @@ ghost use Rattle.std.specs.List.{list_any};
 ghost use Rattle.serde_json.specs.Find.{as_str, get};
 ghost use Rattle.serde_json.specs.View.{view};
 ghost use Rattle.kd_config.specs.Address.{has_address};
-ghost use Rattle.kd_kea.specs.Notes.{above_by, around_members, boot_in, inside_notes, is_not_failed, kea_inside, network_below, network_lists, network_notes, network_own, network_values, outside_in, prefix_given};
+ghost use Rattle.kd_kea.specs.Notes.{above_by, around_members, boot_in, inside_notes, is_not_failed, kea_inside, keys_in_network, network_below, network_lists, network_notes, network_own, network_values, outside_in, prefix_given};
 
 use crate::notes::NoteKind;
-use crate::notes::around::{Around, above_in};
+use crate::notes::around::{Around, KeysReader, above_in};
 use crate::notes::list::NoteList;
 use crate::notes::objects::{RelayObject, SubnetObject, note_keys, note_part_options};
-use crate::notes::values::{note_boot, note_flag, note_inherited, note_text};
+use crate::notes::times::note_term;
+use crate::notes::values::{note_boot, note_flag, note_policy, note_text};
 use crate::notes::walk::{Listed, NotedObject, append_checked, note_failed, note_list, note_value};
 use crate::objects::alone::read_alone;
 use crate::objects::boot::written_boot;
 use crate::objects::definition::Definition;
 use crate::objects::host_name::names_are_bare;
+use crate::objects::lifetimes::TermKeys;
 use crate::objects::network::{NetworkReader, has_own_interface};
 use crate::objects::subnet::written_prefix;
 use crate::tables::ObjectKind;
@@ -48,6 +50,7 @@ impl<'a> NotedObject for NetworkObject<'a> {
         let mut inner = NoteList::new(notes.allocator());
         note_keys(&mut inner, network, path, ObjectKind::Network)?;
         note_network_values(&mut inner, network, path, self.around)?;
+        note_term(&mut inner, network, path, 0, self.around.keys)?;
         note_network_own(&mut inner, network, path)?;
         note_network_lists(&mut inner, network, path, self.around, self.known)?;
         append_checked(notes, inner, &reader, network, path)
@@ -91,7 +94,7 @@ fn note_network_values(
     ensures { OnOk result
         (notes.new ≡ notes.old ++ network_values around path.now (view network.now)) }
 {
-    note_inherited(notes, network, path, around)?;
+    note_policy(notes, network, path, around.policy)?;
     note_inside(notes, network, path, around.address)
 }
 
@@ -210,7 +213,7 @@ fn note_network_lists(
         key: "subnet4",
         most: 64,
     };
-    let around = around_inside(network, around);
+    let around = around_inside(notes.allocator(), network, around)?;
     note_part_options(notes, network, path, known)?;
     note_list(
         notes,
@@ -224,22 +227,35 @@ fn note_network_lists(
 
 // Returns what holds above the members of a network, each part if it is right by itself.
 #[tactic(auto, unfolding(crate::specs::Notes::around_members))]
-fn around_inside(network: &Value, around: Around) -> Around
-    ensures { result ≡ around_members around (view network.now) }
+fn around_inside(alloc: Global, network: &Value, around: Around) -> Result<Around, AllocError>
+    ensures { IfOk result (λ inside. inside ≡ around_members around (view network.now)) }
 {
-    Around {
+    Ok(Around {
         address: around.address,
         times: around.times,
-        calculated: around.calculated,
-        shares: around.shares,
+        keys: keys_inside(alloc, network, around.keys)?,
+        by_class: around.by_class,
         outside: written_outside(network, around.outside),
         kinds: around.kinds,
         bare: names_are_bare(network, around.bare),
         policy: around.policy,
         boot: boot_inside(network, around.boot),
-        lifetime: around.lifetime,
-        renew: around.renew,
-        rebind: around.rebind,
+    })
+}
+
+// Returns what the keys for the times of leases say above the members of a network, if all that says
+// so is right.
+#[tactic(auto, unfolding(crate::specs::Notes::keys_in_network))]
+fn keys_inside(
+    alloc: Global,
+    network: &Value,
+    above: Option<TermKeys>,
+) -> Result<Option<TermKeys>, AllocError>
+    ensures { IfOk result (λ keys. keys ≡ keys_in_network above (view network.now)) }
+{
+    match above {
+        Some(above) => read_alone(alloc, &KeysReader { above }, network),
+        None => Ok(None),
     }
 }
 

@@ -1,17 +1,16 @@
 ghost use Rattle.std.specs.Prelude.{◌≡◌, ◌++◌, OnOk, codes, is_some, option_and_then};
 ghost use Rattle.serde_json.specs.Find.{get};
 ghost use Rattle.serde_json.specs.View.{view};
-ghost use Rattle.kd_config.specs.Sound.{longest_lease};
 ghost use Rattle.kd_json.specs.Subnet.{subnet_prefix};
 ghost use Rattle.kd_json.specs.Values.{number_if_given, text_if_given};
-ghost use Rattle.kd_kea.specs.Notes.{boot_notes, calculated_notes, flag_note, hook_kind, hook_notes, host_values, inherited_notes, interface_notes, kind_notes, lease_notes, limit_notes, name_notes, number_note, off_notes, policy_notes, repeated_notes, repeated_shares, server_flags, server_times, server_values, service_notes, share_notes, subnet_own, subnet_values, text_note, time_note, unused_share, unused_shares, usual_note};
+ghost use Rattle.kd_kea.specs.Notes.{boot_notes, flag_note, hook_kind, hook_notes, host_values, interface_notes, kind_notes, name_notes, number_note, off_notes, policy_notes, server_flags, service_notes, subnet_own, subnet_values, text_note, usual_note};
 ghost use Rattle.kd_kea.specs.Rows.{plain_of};
 
-use crate::keys::{UsualValue, is_usual};
+use crate::keys::UsualValue;
 use crate::notes::NoteKind;
-use crate::notes::around::{Around, TimesReader};
+use crate::notes::around::Around;
 use crate::notes::list::NoteList;
-use crate::notes::walk::{NotedObject, append_checked, note_failed, note_value};
+use crate::notes::walk::{NotedObject, note_failed, note_value};
 use crate::notes::wholes::NameReader;
 use crate::objects::alone::read_alone;
 use crate::objects::boot::{written_file, written_name, written_server};
@@ -23,30 +22,17 @@ use crate::objects::policy::Policy;
 use crate::objects::reservation::ReservationReader;
 use crate::objects::settings::is_off;
 use crate::objects::subnet::{has_server_interface, written_prefix};
-use crate::objects::times::{
-    HALF, LONGEST, SEVEN_EIGHTHS, Shares, are_usable, key_of_shares, key_of_times, shares_in,
-    written_lifetime,
-};
 use kd_json::objects::values::number_in;
 use serde_json::Value;
 use std::alloc::AllocError;
 
-// Notes the keys of `Dhcp4` that are served with some values only.
-#[tactic(auto, unfolding(crate::specs::Notes::server_values))]
-pub(super) fn note_server_values(
+// Notes what other services and hooks do, and where the configuration is kept.
+#[tactic(auto, unfolding(crate::specs::Notes::service_notes))]
+pub(super) fn note_services(
     notes: &mut NoteList,
     dhcp4: &Value,
     path: &str,
 ) -> Result<(), AllocError>
-    ensures { OnOk result (notes.new ≡ notes.old ++ server_values path.now (view dhcp4.now)) }
-{
-    note_services(notes, dhcp4, path)?;
-    note_shares(notes, dhcp4, path, flag_in(dhcp4, "calculate-tee-times"))
-}
-
-// Notes what other services and hooks do, and where the configuration is kept.
-#[tactic(auto, unfolding(crate::specs::Notes::service_notes))]
-fn note_services(notes: &mut NoteList, dhcp4: &Value, path: &str) -> Result<(), AllocError>
     ensures { OnOk result (notes.new ≡ notes.old ++ service_notes path.now (view dhcp4.now)) }
 {
     let updates = OffValue {
@@ -82,42 +68,8 @@ pub(super) fn note_subnet_values(
     ensures { OnOk result
         (notes.new ≡ notes.old ++ subnet_values around path.now (view subnet.now)) }
 {
-    note_inherited(notes, subnet, path, around)?;
+    note_policy(notes, subnet, path, around.policy)?;
     note_interface(notes, subnet, path, around.address)
-}
-
-// Notes what a subnet or a network may only repeat of the whole server.
-#[tactic(auto, unfolding(crate::specs::Notes::inherited_notes))]
-pub(super) fn note_inherited(
-    notes: &mut NoteList,
-    object: &Value,
-    path: &str,
-    around: Around,
-) -> Result<(), AllocError>
-    ensures { OnOk result
-        (notes.new ≡ notes.old ++ inherited_notes around path.now (view object.now)) }
-{
-    note_repeated(notes, object, path, around)?;
-    note_calculated(notes, object, path, around.calculated)?;
-    note_repeated_shares(notes, object, path, around.calculated, around.shares)?;
-    note_policy(notes, object, path, around.policy)
-}
-
-// Notes the times of a subnet or a network, which may only be those of the whole server.
-#[tactic(auto, unfolding(crate::specs::Notes::repeated_notes))]
-fn note_repeated(
-    notes: &mut NoteList,
-    subnet: &Value,
-    path: &str,
-    around: Around,
-) -> Result<(), AllocError>
-    ensures { OnOk result
-        (notes.new ≡ notes.old ++ repeated_notes around path.now (view subnet.now)) }
-{
-    note_time(notes, subnet, path, "valid-lifetime", around.lifetime)?;
-    note_limits(notes, subnet, path, around.lifetime)?;
-    note_time(notes, subnet, path, "renew-timer", around.renew)?;
-    note_time(notes, subnet, path, "rebind-timer", around.rebind)
 }
 
 // A value that turns nothing on if its key is absent or has its usual value.
@@ -165,136 +117,9 @@ fn kind_of_hooks(quiet: bool) -> NoteKind
     }
 }
 
-// A share of T1 or T2 that is not used.
-#[derive(Clone, Copy)]
-struct UnusedShare {
-    usual: UsualValue,
-}
-
-impl NotedObject for UnusedShare {
-    ghost noted = { λ it. unused_share (plain_of it.usual) };
-
-    fn note(self, notes: &mut NoteList, share: &Value, path: &str) -> Result<(), AllocError> {
-        if is_usual(self.usual, share) {
-            return Ok(());
-        }
-        notes.push_path(path, NoteKind::Skipped)
-    }
-}
-
-// Notes the shares of T1 and T2 of the whole server, if it is known whether the times are
-// calculated.
-fn note_shares(
-    notes: &mut NoteList,
-    dhcp4: &Value,
-    path: &str,
-    calculated: Option<bool>,
-) -> Result<(), AllocError>
-    ensures { OnOk result
-        (notes.new ≡ notes.old ++ share_notes calculated path.now (view dhcp4.now)) }
-{
-    match calculated {
-        Some(true) => {
-            let passed = are_usable(shares_in(dhcp4));
-            note_failed(notes, passed, path, key_of_shares(dhcp4), NoteKind::Wrong)
-        }
-        Some(false) => note_unused_shares(notes, dhcp4, path),
-        None => Ok(()),
-    }
-}
-
-// Notes the shares of T1 and T2 of a subnet, which may only be those of the whole server if the
-// times are calculated.
-fn note_repeated_shares(
-    notes: &mut NoteList,
-    subnet: &Value,
-    path: &str,
-    calculated: Option<bool>,
-    shares: Shares,
-) -> Result<(), AllocError>
-    ensures { OnOk result
-        (notes.new ≡ notes.old ++ repeated_shares calculated shares path.now (view subnet.now)) }
-{
-    match calculated {
-        Some(true) => {
-            let renew = UsualValue::Fraction(shares.renew);
-            note_unusual(notes, subnet, path, "t1-percent", renew)?;
-            let rebind = UsualValue::Fraction(shares.rebind);
-            note_unusual(notes, subnet, path, "t2-percent", rebind)
-        }
-        Some(false) => note_unused_shares(notes, subnet, path),
-        None => Ok(()),
-    }
-}
-
-// Notes shares of T1 and T2 that are not used.
-fn note_unused_shares(notes: &mut NoteList, object: &Value, path: &str) -> Result<(), AllocError>
-    ensures { OnOk result (notes.new ≡ notes.old ++ unused_shares path.now (view object.now)) }
-{
-    let renew = UnusedShare {
-        usual: UsualValue::Fraction(HALF),
-    };
-    note_value(notes, object, path, "t1-percent", renew)?;
-    let rebind = UnusedShare {
-        usual: UsualValue::Fraction(SEVEN_EIGHTHS),
-    };
-    note_value(notes, object, path, "t2-percent", rebind)
-}
-
-// Notes the least and the greatest lifetime, if the lifetime is known.
-fn note_limits(
-    notes: &mut NoteList,
-    object: &Value,
-    path: &str,
-    lifetime: Option<u32>,
-) -> Result<(), AllocError>
-    ensures { OnOk result
-        (notes.new ≡ notes.old ++ limit_notes lifetime path.now (view object.now)) }
-{
-    note_time(notes, object, path, "min-valid-lifetime", lifetime)?;
-    note_time(notes, object, path, "max-valid-lifetime", lifetime)
-}
-
-// Notes a time that may only be one of the whole server, if that is known.
-fn note_time(
-    notes: &mut NoteList,
-    object: &Value,
-    path: &str,
-    key: &'static str,
-    time: Option<u32>,
-) -> Result<(), AllocError>
-    ensures { OnOk result
-        (notes.new ≡ notes.old ++ time_note time key.now path.now (view object.now)) }
-{
-    match time {
-        Some(time) => {
-            let usual = UsualValue::Number(u64::from(time));
-            note_unusual(notes, object, path, key, usual)
-        }
-        None => Ok(()),
-    }
-}
-
-// Notes whether the times of a subnet are calculated, if it is known of the whole server.
-fn note_calculated(
-    notes: &mut NoteList,
-    subnet: &Value,
-    path: &str,
-    calculated: Option<bool>,
-) -> Result<(), AllocError>
-    ensures { OnOk result
-        (notes.new ≡ notes.old ++ calculated_notes calculated path.now (view subnet.now)) }
-{
-    let Some(calculated) = calculated else {
-        return Ok(());
-    };
-    let usual = UsualValue::Flag(calculated);
-    note_unusual(notes, subnet, path, "calculate-tee-times", usual)
-}
-
 // Notes the policy of a subnet or a network, which may only be that of the whole server, if that is
 // known.
-fn note_policy(
+pub(super) fn note_policy(
     notes: &mut NoteList,
     object: &Value,
     path: &str,
@@ -346,61 +171,6 @@ fn note_unusual(
 {
     let passed = is_usual_at(object, key, usual);
     note_failed(notes, passed, path, key, NoteKind::Unknown)
-}
-
-// Notes the lease and offer times of the whole server: each by itself, and then one of
-// them if they are not in order.
-#[tactic(auto, unfolding(crate::specs::Notes::server_times))]
-pub(super) fn note_server_times(
-    notes: &mut NoteList,
-    dhcp4: &Value,
-    path: &str,
-) -> Result<(), AllocError>
-    ensures { OnOk result (notes.new ≡ notes.old ++ server_times path.now (view dhcp4.now)) }
-{
-    let last = notes.path_of_key(path, key_of_times(dhcp4))?;
-    let mut inner = NoteList::new(notes.allocator());
-    let offer = Number {
-        key: "offer-lifetime",
-        least: 0,
-        most: 86_400,
-    };
-    let decline = Number {
-        key: "decline-probation-period",
-        least: 1,
-        most: 31_536_000,
-    };
-    note_flag(&mut inner, dhcp4, path, "calculate-tee-times")?;
-    note_leases(&mut inner, dhcp4, path)?;
-    note_number(&mut inner, dhcp4, path, offer)?;
-    note_number(&mut inner, dhcp4, path, decline)?;
-    append_checked(notes, inner, &TimesReader, dhcp4, &last)
-}
-
-// Notes the lease times of the whole server, each by itself.
-#[tactic(auto, unfolding(crate::specs::Notes::lease_notes))]
-fn note_leases(notes: &mut NoteList, dhcp4: &Value, path: &str) -> Result<(), AllocError>
-    ensures { OnOk result (notes.new ≡ notes.old ++ lease_notes path.now (view dhcp4.now)) }
-{
-    let lifetime = Number {
-        key: "valid-lifetime",
-        least: 1,
-        most: LONGEST,
-    };
-    let renew = Number {
-        key: "renew-timer",
-        least: 1,
-        most: LONGEST,
-    };
-    let rebind = Number {
-        key: "rebind-timer",
-        least: 1,
-        most: LONGEST,
-    };
-    note_number(notes, dhcp4, path, lifetime)?;
-    note_limits(notes, dhcp4, path, written_lifetime(dhcp4))?;
-    note_number(notes, dhcp4, path, renew)?;
-    note_number(notes, dhcp4, path, rebind)
 }
 
 // Notes the values of a subnet that are wrong by themselves.
@@ -455,14 +225,14 @@ pub(super) fn note_boot(notes: &mut NoteList, object: &Value, path: &str) -> Res
 
 // A key of a number, and its range.
 #[derive(Clone, Copy)]
-struct Number {
-    key: &'static str,
-    least: u32,
-    most: u32,
+pub(super) struct Number {
+    pub(super) key: &'static str,
+    pub(super) least: u32,
+    pub(super) most: u32,
 }
 
 // Notes that a number is wrong, unless it is absent or in its range.
-fn note_number(
+pub(super) fn note_number(
     notes: &mut NoteList,
     object: &Value,
     path: &str,

@@ -10,6 +10,7 @@ use crate::checking::check_keys;
 use crate::objects::boot::own_boot_of;
 use crate::objects::definition::{Definition, definitions_of};
 use crate::objects::flags::non_empty;
+use crate::objects::lifetimes::class_lifetime_of;
 use crate::objects::options::options_of;
 use crate::objects::scope::OptionScope;
 use crate::tables::ObjectKind;
@@ -53,11 +54,13 @@ impl<'a> EntryReader for ClassReader<'a> {
         let text = text_or_none(alloc, value, at, "test")?;
         let options = options_of_class(alloc, value, at, self.known)?;
         let boot = own_boot_of(alloc, value, at)?;
+        let lifetime = class_lifetime_of(alloc, value, at)?;
         Ok(ClassEntry {
             name,
             source: source_of(non_empty(text)),
             options,
             boot,
+            lifetime,
         })
     }
 }

@@ -13,6 +13,7 @@ mod host_client;
 pub(crate) mod host_kinds;
 pub(crate) mod host_name;
 mod inside;
+pub(crate) mod lifetimes;
 pub(crate) mod network;
 mod option_value;
 pub(crate) mod options;

@@ -5,21 +5,18 @@ ghost use Rattle.serde_json.specs.View.{view};
 ghost use Rattle.kd_json.specs.Gives.{Means};
 ghost use Rattle.kd_json.specs.Steps.{must};
 ghost use Rattle.kd_json.specs.declared.objects.faults.SettingsFault.TheVariants.{Memory};
-ghost use Rattle.kd_kea.specs.Network.{above_members, all_subnets, as_member, has_network_form, is_in_one_of, is_for_each, is_interface_of, kea_common, kea_member, kea_network, kea_subnets, may_be_of, numbered, one_class, relays_or, with_network};
+ghost use Rattle.kd_kea.specs.Network.{all_subnets, as_member, has_network_form, is_in_one_of, is_for_each, is_interface_of, kea_common, kea_member, kea_network, kea_subnets, may_be_of, numbered, one_class, relays_or, with_network};
 
 use crate::checking::check_keys;
-use crate::objects::boot::boot_of;
 use crate::objects::definition::Definition;
-use crate::objects::flags::{flag_or_default, non_empty, text_at};
-use crate::objects::host_name::names_are_bare;
+use crate::objects::flags::{non_empty, text_at};
 use crate::objects::options::options_of;
 use crate::objects::policy::check_policy;
 use crate::objects::relay::relays_in;
 use crate::objects::scope::part_scope;
-use crate::objects::subnet::{Above, SubnetReader};
-use crate::objects::times::check_times;
+use crate::objects::subnet::{Above, SubnetReader, above_in};
 use crate::tables::ObjectKind;
-use kd_classes::{Boot, OptionList};
+use kd_classes::OptionList;
 use kd_config::{Pool, Reservation, Subnet, class_copied, options_copied};
 use kd_json::objects::faults::SettingsFault;
 use kd_json::objects::lists::{EntryReader, entries_of};
@@ -137,11 +134,9 @@ impl<'a> EntryReader for NetworkReader<'a> {
     ) -> Result<Entries<Subnet>, SettingsFault> {
         check_form(alloc, value, at, self.above)?;
         let common = common_of(alloc, value, at, self.known)?;
-        let key = "reservations-out-of-pool";
-        let outside = flag_or_default(alloc, value, at, key, self.above.outside)?;
-        let boot = boot_of(alloc, value, at)?;
+        let above = above_in(alloc, value, at, self.above)?;
         let reader = MemberReader {
-            above: above_in(value, self.above, outside, boot),
+            above,
             known: self.known,
             common: &common,
         };
@@ -162,14 +157,6 @@ fn check_form(
     ensures { Means Memory result (has_network_form above (view value.now)) }
 {
     check_keys(alloc, value, at, ObjectKind::Network)?;
-    check_times(
-        alloc,
-        value,
-        at,
-        above.calculated,
-        above.shares,
-        above.times,
-    )?;
     check_policy(alloc, value, at, above.policy)?;
     check_name(alloc, value, at)
 }
@@ -201,23 +188,6 @@ fn common_of(
         class: non_empty(class),
         options,
     })
-}
-
-// Returns what holds above the members of a network, which gives this to the boot fields.
-fn above_in(network: &Value, above: Above, outside: bool, boot: Boot) -> Above
-    ensures { result ≡ above_members above outside boot (view network.now) }
-{
-    Above {
-        server: above.server,
-        times: above.times,
-        calculated: above.calculated,
-        shares: above.shares,
-        outside,
-        kinds: above.kinds,
-        bare: names_are_bare(network, above.bare),
-        policy: above.policy,
-        boot: boot.or(above.boot),
-    }
 }
 
 // Checks that a network's interface is the one with the server's address.
@@ -315,6 +285,7 @@ fn member_of(
         network: 0,
         shared,
         boot: subnet.boot,
+        term: subnet.term,
     })
 }
 

@@ -18,12 +18,13 @@ use crate::objects::flags::{check_usual, flag_at, is_usual_at};
 use crate::objects::hooks::check_hooks;
 use crate::objects::host_kinds::{check_identifiers, kinds_of_server};
 use crate::objects::host_name::server_names_are_bare;
+use crate::objects::lifetimes::{TermKeys, is_lifetime_by_class, keys_of};
 use crate::objects::network::subnets_of;
 use crate::objects::options::{address_among, options_of, without_server};
 use crate::objects::policy::{Policy, policy_of};
 use crate::objects::scope::scope_of_all;
 use crate::objects::subnet::Above;
-use crate::objects::times::{check_shares, shares_in, times_of};
+use crate::objects::times::times_of;
 use crate::tables::ObjectKind;
 use kd_classes::{OptionData, OptionList};
 use kd_config::Extensions;
@@ -62,9 +63,8 @@ pub(crate) fn settings_of(
     ensures { Means Memory result (kea_dhcp4 server (view value.now)) }
 {
     check_form(alloc, value, at)?;
-    let calculated = flag_at(alloc, value, at, "calculate-tee-times")?;
-    check_shares(alloc, value, at, calculated)?;
-    let times = times_of(alloc, value, at, calculated)?;
+    let keys = keys_of(alloc, value, at, TermKeys::usual())?;
+    let times = times_of(alloc, value, at, keys)?;
     let outside = flag_at(alloc, value, at, "reservations-out-of-pool")?;
     let policy = policy_of(alloc, value, at)?;
     let boot = boot_of(alloc, value, at)?;
@@ -74,8 +74,8 @@ pub(crate) fn settings_of(
     let above = Above {
         server,
         times,
-        calculated,
-        shares: shares_in(value),
+        keys,
+        by_class: is_lifetime_by_class(value),
         outside,
         kinds: kinds_of_server(value),
         bare: server_names_are_bare(value),

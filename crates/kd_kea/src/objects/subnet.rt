@@ -10,7 +10,7 @@ ghost use Rattle.kd_json.specs.Subnet.{subnet_prefix};
 ghost use Rattle.kd_json.specs.declared.objects.faults.SettingsFault.TheVariants.{Memory};
 ghost use Rattle.kd_kea.specs.Parts.{parts_of_all};
 ghost use Rattle.kd_kea.specs.Pool.{kea_pool};
-ghost use Rattle.kd_kea.specs.Subnet.{has_subnet_form, is_at_server, is_in_none, kea_subnet, kea_subnet_with, lies_outside, stand_beside};
+ghost use Rattle.kd_kea.specs.Subnet.{above_within, has_subnet_form, is_at_server, is_in_none, kea_subnet, kea_subnet_with, lies_outside, stand_beside};
 
 use crate::checking::check_keys;
 use crate::objects::boot::boot_of;
@@ -18,6 +18,7 @@ use crate::objects::definition::Definition;
 use crate::objects::flags::{flag_or_default, non_empty};
 use crate::objects::host_kinds::HostKinds;
 use crate::objects::host_name::names_are_bare;
+use crate::objects::lifetimes::{TermKeys, keys_of, term_in};
 use crate::objects::options::options_of;
 use crate::objects::parts::parts_of_pools;
 use crate::objects::policy::{Policy, check_policy};
@@ -25,7 +26,6 @@ use crate::objects::pool::PoolReader;
 use crate::objects::relay::relays_in;
 use crate::objects::reservation::ReservationReader;
 use crate::objects::scope::part_scope;
-use crate::objects::times::{Shares, check_times};
 use crate::tables::ObjectKind;
 use kd_classes::{Boot, OptionList};
 use kd_config::{Pool, Prefix, Reservation, Reservations, Subnet, Times};
@@ -38,17 +38,17 @@ use kd_wire::{Bytes, Entries};
 use serde_json::Value;
 use std::alloc::Global;
 
-// What holds for the whole server, above its subnets.
+// What holds for the whole server or a network, above its subnets.
 #[derive(Clone, Copy)]
 pub(crate) struct Above {
     // The server's address.
     pub(crate) server: u32,
     // The lease and offer times.
     pub(crate) times: Times,
-    // T1 and T2 are calculated with Kea's rounding.
-    pub(crate) calculated: bool,
-    // The shares of the lifetime by which they are.
-    pub(crate) shares: Shares,
+    // What the keys for the times of leases say, unless a subnet says something else.
+    pub(crate) keys: TermKeys,
+    // A class has a lifetime.
+    pub(crate) by_class: bool,
     // Reservations are looked for outside pools alone, unless a subnet says otherwise.
     pub(crate) outside: bool,
     // By which kinds of identity reservations are looked for.
@@ -85,28 +85,10 @@ impl<'a> EntryReader for SubnetReader<'a> {
         };
         check_interface(alloc, value, at, self.above.server, prefix)?;
         let class = text_or_none(alloc, value, at, "client-class")?;
-        let outside = flag_or_default(
-            alloc,
-            value,
-            at,
-            "reservations-out-of-pool",
-            self.above.outside,
-        )?;
-        let hosts = ReservationReader {
-            known: self.known,
-            kinds: self.above.kinds,
-            bare: names_are_bare(value, self.above.bare),
-        };
-        subnet_of_lists(
-            alloc,
-            value,
-            at,
-            hosts,
-            outside,
-            self.above.boot,
-            prefix,
-            non_empty(class),
-        )
+        let above = above_in(alloc, value, at, self.above)?;
+        let known = self.known;
+        let reader = SubnetReader { above, known };
+        subnet_of_lists(alloc, value, at, reader, prefix, non_empty(class))
     }
 }
 
@@ -121,14 +103,6 @@ fn check_form(
     ensures { Means Memory result (has_subnet_form above (view value.now)) }
 {
     check_keys(alloc, value, at, ObjectKind::Subnet)?;
-    check_times(
-        alloc,
-        value,
-        at,
-        above.calculated,
-        above.shares,
-        above.times,
-    )?;
     check_policy(alloc, value, at, above.policy)?;
     number_or(alloc, value, at, "id", 1, 4_294_967_294, 1)?;
     Ok(())
@@ -173,36 +147,65 @@ pub(crate) fn written_prefix(subnet: &Value) -> Option<Prefix>
     prefix_in(subnet.get("subnet")?)
 }
 
-// Builds the subnet of a prefix and a class with the lists in a value, by the definitions of options
-// with which its reservations are read and what is given to the boot fields above it. It is in no
-// network.
+// Reads what holds in a subnet, or in a network above its members: what its own keys say, and else what
+// holds above it.
+#[tactic(auto, unfolding(crate::specs::Subnet::above_within))]
+pub(crate) fn above_in(
+    alloc: Global,
+    value: &Value,
+    at: &Place<'_>,
+    above: Above,
+) -> Result<Above, SettingsFault>
+    ensures { Means Memory result (above_within above (view value.now)) }
+{
+    let keys = keys_of(alloc, value, at, above.keys)?;
+    let key = "reservations-out-of-pool";
+    let outside = flag_or_default(alloc, value, at, key, above.outside)?;
+    let boot = boot_of(alloc, value, at)?;
+    Ok(Above {
+        server: above.server,
+        times: above.times,
+        keys,
+        by_class: above.by_class,
+        outside,
+        kinds: above.kinds,
+        bare: names_are_bare(value, above.bare),
+        policy: above.policy,
+        boot: boot.or(above.boot),
+    })
+}
+
+// Builds the subnet of a prefix and a class with the lists in a value, by what holds in it and the
+// definitions of options. It is in no network.
 #[tactic(auto, unfolding(crate::specs::Subnet::kea_subnet_with))]
 fn subnet_of_lists(
     alloc: Global,
     value: &Value,
     at: &Place<'_>,
-    hosts: ReservationReader<'_>,
-    outside: bool,
-    above: Boot,
+    reader: SubnetReader<'_>,
     prefix: Prefix,
     class: Option<Bytes>,
 ) -> Result<Subnet, SettingsFault>
     ensures { Means Memory result
-        (kea_subnet_with hosts.entry.known.now hosts.entry.kinds hosts.entry.bare outside above prefix class
-        (view value.now)) }
+        (kea_subnet_with reader.entry.known.now reader.entry.above prefix class (view value.now)) }
 {
+    let SubnetReader { above, known } = reader;
+    let hosts = ReservationReader {
+        known,
+        kinds: above.kinds,
+        bare: above.bare,
+    };
     let relays = relays_in(alloc, value, at)?;
-    let pools = pools_of(alloc, value, at, hosts.known)?;
+    let pools = pools_of(alloc, value, at, known)?;
     let reservations = entries_of(alloc, value, at, "reservations", 4096, &hosts)?;
     check_outside(
         alloc,
         at,
-        outside,
+        above.outside,
         pools.as_slice(),
         reservations.as_slice(),
     )?;
-    let options = options_of(alloc, value, at, part_scope(hosts.known))?;
-    let boot = boot_of(alloc, value, at)?;
+    let options = options_of(alloc, value, at, part_scope(known))?;
     let reservations = Reservations::own(alloc, reservations.into_vec())?;
     Ok(Subnet {
         prefix,
@@ -213,7 +216,8 @@ fn subnet_of_lists(
         options,
         network: 0,
         shared: OptionList::own(Vec::new(alloc)),
-        boot: boot.or(above),
+        boot: above.boot,
+        term: term_in(above),
     })
 }
 

@@ -1,0 +1,317 @@
+ghost use Rattle.std.specs.Prelude.{◌≡◌, ◌++◌, IfOk, OnOk};
+ghost use Rattle.serde_json.specs.View.{view};
+ghost use Rattle.kd_config.specs.Sound.{longest_lease};
+ghost use Rattle.kd_kea.specs.Lifetimes.{class_lifetime, keys_given, timers_rise};
+ghost use Rattle.kd_kea.specs.Notes.{class_lifetime_notes, is_above_least, is_below_most, keys_below, lifetime_notes, number_note, order_notes, pass_if_known, server_times, share_notes, subnet_times, term_notes, timer_notes, unused_share, unused_shares};
+ghost use Rattle.kd_kea.specs.Rows.{plain_of};
+ghost use Rattle.kd_kea.specs.Times.{has_usual_shares};
+
+use crate::keys::{UsualValue, is_usual};
+use crate::notes::NoteKind;
+use crate::notes::around::TimesReader;
+use crate::notes::list::NoteList;
+use crate::notes::values::{Number, note_flag, note_number};
+use crate::notes::walk::{NotedObject, append_checked, note_failed, note_value};
+use crate::objects::alone::read_alone;
+use crate::objects::lifetimes::{
+    TermKeys, class_lifetime_of, given_keys_of, key_of_bound, key_of_timers,
+};
+use crate::objects::times::{
+    HALF, LONGEST, SEVEN_EIGHTHS, has_usable_shares, key_of_shares, key_of_times,
+};
+use kd_classes::Lifetime;
+use kd_json::objects::faults::SettingsFault;
+use kd_json::objects::lists::EntryReader;
+use kd_json::rules::place::Place;
+use serde_json::Value;
+use std::alloc::{AllocError, Global};
+
+// Notes the lease and offer times of the whole server: each by itself, and then one of them if they
+// are not in order.
+#[tactic(auto, unfolding(crate::specs::Notes::server_times))]
+pub(super) fn note_server_times(
+    notes: &mut NoteList,
+    dhcp4: &Value,
+    path: &str,
+) -> Result<(), AllocError>
+    ensures { OnOk result (notes.new ≡ notes.old ++ server_times path.now (view dhcp4.now)) }
+{
+    let last = notes.path_of_key(path, key_of_times(dhcp4))?;
+    let mut inner = NoteList::new(notes.allocator());
+    let offer = Number {
+        key: "offer-lifetime",
+        least: 0,
+        most: 86_400,
+    };
+    let decline = Number {
+        key: "decline-probation-period",
+        least: 1,
+        most: 31_536_000,
+    };
+    note_term(&mut inner, dhcp4, path, 1, Some(TermKeys::usual()))?;
+    note_number(&mut inner, dhcp4, path, offer)?;
+    note_number(&mut inner, dhcp4, path, decline)?;
+    append_checked(notes, inner, &TimesReader, dhcp4, &last)
+}
+
+// Notes the keys for the times of leases in a subnet, where they say this above it.
+#[tactic(auto, unfolding(crate::specs::Notes::subnet_times))]
+pub(super) fn note_subnet_times(
+    notes: &mut NoteList,
+    subnet: &Value,
+    path: &str,
+    above: Option<TermKeys>,
+) -> Result<(), AllocError>
+    ensures { OnOk result
+        (notes.new ≡ notes.old ++ subnet_times above path.now (view subnet.now)) }
+{
+    let keys = known_keys(notes.allocator(), subnet, above)?;
+    note_term(notes, subnet, path, 0, above)?;
+    note_shares(notes, subnet, path, keys)
+}
+
+// Notes the keys for the times of leases, where they say this above the object: each by itself, T1 and
+// T2 from a least time on, and then those that do not go together.
+#[tactic(auto, unfolding(crate::specs::Notes::term_notes))]
+pub(super) fn note_term(
+    notes: &mut NoteList,
+    object: &Value,
+    path: &str,
+    least: u32,
+    above: Option<TermKeys>,
+) -> Result<(), AllocError>
+    ensures { OnOk result
+        (notes.new ≡ notes.old ++ term_notes least above path.now (view object.now)) }
+{
+    let keys = known_keys(notes.allocator(), object, above)?;
+    note_lifetime(notes, object, path)?;
+    note_timers(notes, object, path, least)?;
+    note_order(notes, object, path, keys)
+}
+
+// Returns what the keys of an object say, if it is known what they say above it.
+#[tactic(auto, unfolding(crate::specs::Notes::keys_below))]
+fn known_keys(
+    alloc: Global,
+    object: &Value,
+    above: Option<TermKeys>,
+) -> Result<Option<TermKeys>, AllocError>
+    ensures { IfOk result (λ keys. keys ≡ keys_below above (view object.now)) }
+{
+    match above {
+        Some(above) => read_alone(alloc, &GivenReader { above }, object),
+        None => Ok(None),
+    }
+}
+
+// Reads what the keys for the times of leases say, each by itself, where they say this above the value.
+#[derive(Clone, Copy)]
+struct GivenReader {
+    above: TermKeys,
+}
+
+impl EntryReader for GivenReader {
+    type Entry = TermKeys;
+
+    ghost means = { λ reader. keys_given reader.above };
+
+    fn read(
+        &self,
+        alloc: Global,
+        object: &Value,
+        at: &Place<'_>,
+    ) -> Result<TermKeys, SettingsFault> {
+        given_keys_of(alloc, object, at, self.above)
+    }
+}
+
+// Notes the keys of a lifetime, each by itself.
+#[tactic(auto, unfolding(crate::specs::Notes::lifetime_notes))]
+fn note_lifetime(notes: &mut NoteList, object: &Value, path: &str) -> Result<(), AllocError>
+    ensures { OnOk result (notes.new ≡ notes.old ++ lifetime_notes path.now (view object.now)) }
+{
+    note_number(notes, object, path, seconds("valid-lifetime", 1))?;
+    note_number(notes, object, path, seconds("min-valid-lifetime", 1))?;
+    note_number(notes, object, path, seconds("max-valid-lifetime", 1))
+}
+
+// Notes the keys of T1 and T2, each by itself: a time has at least so many seconds.
+#[tactic(auto, unfolding(crate::specs::Notes::timer_notes))]
+fn note_timers(
+    notes: &mut NoteList,
+    object: &Value,
+    path: &str,
+    least: u32,
+) -> Result<(), AllocError>
+    ensures { OnOk result (notes.new ≡ notes.old ++ timer_notes least path.now (view object.now)) }
+{
+    note_number(notes, object, path, seconds("renew-timer", least))?;
+    note_number(notes, object, path, seconds("rebind-timer", least))?;
+    note_flag(notes, object, path, "calculate-tee-times")
+}
+
+// Returns a key of a time, which has at least so many seconds.
+fn seconds(key: &'static str, least: u32) -> Number
+    ensures key { result.key.now ≡ key.now }
+    ensures least { result.least ≡ least }
+    ensures most { result.most ≡ longest_lease }
+{
+    Number {
+        key,
+        least,
+        most: LONGEST,
+    }
+}
+
+// Notes keys that say this, and do not go together.
+#[tactic(auto, unfolding(crate::specs::Notes::order_notes))]
+fn note_order(
+    notes: &mut NoteList,
+    object: &Value,
+    path: &str,
+    keys: Option<TermKeys>,
+) -> Result<(), AllocError>
+    ensures { OnOk result (notes.new ≡ notes.old ++ order_notes keys path.now (view object.now)) }
+{
+    let wrong = NoteKind::Wrong;
+    let least = key_of_bound(object, "min-valid-lifetime");
+    let most = key_of_bound(object, "max-valid-lifetime");
+    note_failed(notes, may_have_least(keys), path, least, wrong)?;
+    note_failed(notes, may_have_most(keys), path, most, wrong)?;
+    note_failed(
+        notes,
+        may_have_timers(keys),
+        path,
+        key_of_timers(object),
+        wrong,
+    )?;
+    note_failed(
+        notes,
+        may_have_shares(keys),
+        path,
+        key_of_shares(object),
+        wrong,
+    )
+}
+
+// Reports whether the least lifetime is at most the usual one, or that is not known.
+fn may_have_least(keys: Option<TermKeys>) -> bool
+    ensures { result ≡ pass_if_known is_above_least keys }
+{
+    match keys {
+        Some(keys) => keys.lifetime().least <= keys.usual,
+        None => true,
+    }
+}
+
+// Reports whether the usual lifetime is at most the greatest one, or that is not known.
+fn may_have_most(keys: Option<TermKeys>) -> bool
+    ensures { result ≡ pass_if_known is_below_most keys }
+{
+    match keys {
+        Some(keys) => keys.usual <= keys.lifetime().most,
+        None => true,
+    }
+}
+
+// Reports whether T1 is at most T2, or that is not known.
+fn may_have_timers(keys: Option<TermKeys>) -> bool
+    ensures { result ≡ pass_if_known (λ keys. timers_rise keys.renew keys.rebind) keys }
+{
+    match keys {
+        Some(keys) => keys.has_timers_in_order(),
+        None => true,
+    }
+}
+
+// Reports whether the shares of T1 and T2 are ones that Kea takes, or not used, or that is not known.
+fn may_have_shares(keys: Option<TermKeys>) -> bool
+    ensures { result ≡ pass_if_known (λ keys. has_usual_shares keys.calculated keys.shares) keys }
+{
+    match keys {
+        Some(keys) => has_usable_shares(keys.calculated, keys.shares),
+        None => true,
+    }
+}
+
+// Notes the lifetime of a class: its keys by themselves, and then one of them if they do not go
+// together.
+#[tactic(auto, unfolding(crate::specs::Notes::class_lifetime_notes))]
+pub(super) fn note_class_lifetime(
+    notes: &mut NoteList,
+    class: &Value,
+    path: &str,
+) -> Result<(), AllocError>
+    ensures { OnOk result
+        (notes.new ≡ notes.old ++ class_lifetime_notes path.now (view class.now)) }
+{
+    let last = notes.path_of_key(path, "valid-lifetime")?;
+    let mut inner = NoteList::new(notes.allocator());
+    note_lifetime(&mut inner, class, path)?;
+    append_checked(notes, inner, &ClassLifetimeReader, class, &last)
+}
+
+// Reads the lifetime of a class.
+#[derive(Clone, Copy)]
+struct ClassLifetimeReader;
+
+impl EntryReader for ClassLifetimeReader {
+    type Entry = Option<Lifetime>;
+
+    ghost means = { λ _. class_lifetime };
+
+    fn read(
+        &self,
+        alloc: Global,
+        class: &Value,
+        at: &Place<'_>,
+    ) -> Result<Option<Lifetime>, SettingsFault> {
+        class_lifetime_of(alloc, class, at)
+    }
+}
+
+// A share of T1 or T2 that is not used.
+#[derive(Clone, Copy)]
+struct UnusedShare {
+    usual: UsualValue,
+}
+
+impl NotedObject for UnusedShare {
+    ghost noted = { λ it. unused_share (plain_of it.usual) };
+
+    fn note(self, notes: &mut NoteList, share: &Value, path: &str) -> Result<(), AllocError> {
+        if is_usual(self.usual, share) {
+            return Ok(());
+        }
+        notes.push_path(path, NoteKind::Skipped)
+    }
+}
+
+// Notes the shares of T1 and T2 of a subnet, if they are known not to be used.
+fn note_shares(
+    notes: &mut NoteList,
+    subnet: &Value,
+    path: &str,
+    keys: Option<TermKeys>,
+) -> Result<(), AllocError>
+    ensures { OnOk result (notes.new ≡ notes.old ++ share_notes keys path.now (view subnet.now)) }
+{
+    match keys {
+        Some(keys) if !keys.calculated => note_unused_shares(notes, subnet, path),
+        _ => Ok(()),
+    }
+}
+
+// Notes shares of T1 and T2 that are not used.
+fn note_unused_shares(notes: &mut NoteList, object: &Value, path: &str) -> Result<(), AllocError>
+    ensures { OnOk result (notes.new ≡ notes.old ++ unused_shares path.now (view object.now)) }
+{
+    let renew = UnusedShare {
+        usual: UsualValue::Fraction(HALF),
+    };
+    note_value(notes, object, path, "t1-percent", renew)?;
+    let rebind = UnusedShare {
+        usual: UsualValue::Fraction(SEVEN_EIGHTHS),
+    };
+    note_value(notes, object, path, "t2-percent", rebind)
+}
