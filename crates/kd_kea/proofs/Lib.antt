@@ -30,3 +30,4 @@ pub mod WorkedClients
 pub mod WorkedBoot
 pub mod Shares
 pub mod WorkedTimes
+pub mod WorkedLifetimes

@@ -28,8 +28,8 @@ use Rattle.kd_kea.specs.HostClient.{kea_client}
 use Rattle.kd_kea.specs.HostKinds.{are_all_found, is_found_if_given, kind_key, kinds_given, kinds_in_order}
 use Rattle.kd_kea.specs.HostName.{has_bare_names, host_name, host_options, may_be_named, server_has_bare_names}
 use Rattle.kd_kea.specs.Keys.{keys_are_read}
-use Rattle.kd_kea.specs.Lifetimes.{class_lifetime, has_class_lifetime, kea_keys, usual_keys}
-use Rattle.kd_kea.specs.Notes.{KeyNote, ObjectNotes, above_by, all_subnet_notes, around_members, around_of, beside_note, boot_in, boot_notes, class_lifetime_notes, keys_in_network, policy_notes, service_notes, subnet_times, term_notes, inside_notes, kea_inside, network_below, network_lists, network_notes, network_own, network_values, outside_in, prefix_given, class_notes, data_notes, definition_note, definition_notes, each_described, flag_note, have_refused, host_notes, host_values, is_not_failed, kind_notes, is_served_if_given, item_notes, items_of, kea_below, kea_beside, kea_notes, kea_value, usable_definitions, list_notes, listed_notes, lists_by, name_notes, note_on_name, note_unless, notes_at, notes_of_each, number_note, object_notes, option_notes, or_wrong, own_notes, pool_notes, relay_notes, right_definitions, root_notes, server_lists, server_flags, server_notes, server_times, subnet_lists, subnet_notes, subnet_own, subnet_values, text_note, all_times, value_notes, with_first, required_notes}
+use Rattle.kd_kea.specs.Lifetimes.{own_lifetime, has_class_lifetime, kea_keys, usual_keys}
+use Rattle.kd_kea.specs.Notes.{KeyNote, ObjectNotes, above_by, all_subnet_notes, around_members, around_of, beside_note, boot_in, boot_notes, class_lifetime_notes, keys_in_network, policy_notes, service_notes, term_notes, inside_notes, kea_inside, network_below, network_lists, network_notes, network_own, network_values, outside_in, prefix_given, class_notes, data_notes, definition_note, definition_notes, each_described, flag_note, have_refused, host_notes, host_values, is_not_failed, kind_notes, is_served_if_given, item_notes, items_of, kea_below, kea_beside, kea_notes, kea_value, usable_definitions, list_notes, listed_notes, lists_by, name_notes, note_on_name, note_unless, notes_at, notes_of_each, number_note, object_notes, option_notes, or_wrong, own_notes, pool_notes, relay_notes, right_definitions, root_notes, server_lists, server_flags, server_notes, server_times, subnet_lists, subnet_notes, subnet_own, subnet_values, text_note, all_times, value_notes, with_first, required_notes}
 use Rattle.kd_kea.specs.Network.{as_member, has_network_form, is_in_one_of, is_interface_of, kea_common, kea_member, kea_network, kea_subnets, may_be_of, one_class}
 use Rattle.kd_kea.specs.Options.{is_served_space, kea_entry, kea_options, server_address}
 use Rattle.kd_kea.specs.Parts.{parts_of_all}
@@ -51,7 +51,7 @@ use Rattle.kd_kea.specs.declared.objects.network.Common.{Common}
 use Rattle.kd_kea.specs.declared.objects.policy.Policy.{Policy}
 use Rattle.kd_kea.specs.declared.objects.subnet.Above.{Above}
 use Rattle.kd_wire.specs.Steps.{◌>>=◌}
-use Rattle.kd_kea.proofs.NoneWrong.{none_in_both, own_boot_pass, boot_pass, own_pass, unless_none, right, flag_right, wrong_none, object_none, is_object, form_of, services_pass, bind_is, server_times_pass, Fits, subnet_values_pass, address_known, around_fits, above_known, below_known, class_lifetime_pass, must_hold, policy_pass, subnet_times_pass, term_pass}
+use Rattle.kd_kea.proofs.NoneWrong.{none_in_both, own_boot_pass, boot_pass, own_pass, unless_none, right, flag_right, wrong_none, object_none, is_object, form_of, services_pass, bind_is, server_times_pass, Fits, subnet_values_pass, address_known, around_fits, above_known, below_known, class_lifetime_pass, must_hold, policy_pass, term_pass}
 
 -- ---- definitions, each by itself
 
@@ -232,7 +232,7 @@ class_pass known d class path e =
     let text = came_from (text_if_given (get (codes "test") d)) _ class name.gives in
     let options = came_from (kea_class_options known d) _ class text.gives in
     let boot = came_from (own_boot d) _ class options.gives in
-    let lifetime = came_from (class_lifetime d) _ class boot.gives in
+    let lifetime = came_from (own_lifetime d) _ class boot.gives in
     let own = came_from (kea_definitions true (get (codes "option-def") d)) _ options.first options.is in
     let keyed = own_notes class_keys path d in
     let of_name = note_unless (is_some (get (codes "name") d >>= class_name_in)) Wrong path (codes "name") in
@@ -383,7 +383,7 @@ subnet_pass above around fits known d subnet path e =
     let lists = subst (λ (b : Bool). ListsPass known around.kinds b path d) same_bare (subst (λ (k : HostKinds). ListsPass known k within.first.bare path d) same_kinds listed) in
     let keyed = own_notes subnet_keys path d in
     let values = subnet_values around path d in
-    let own_times = subnet_times around.keys path d in
+    let own_times = term_notes 0 around.keys path d in
     let own = subnet_own path d in
     let options = option_notes false known path d in
     let pools = listed_notes 64 (pool_notes known) (codes "pools") path d in
@@ -397,7 +397,7 @@ subnet_pass above around fits known d subnet path e =
     (none_in_both (keyed ++ values ++ own_times) own
     (none_in_both (keyed ++ values) own_times
     (none_in_both keyed values (own_pass subnet_keys path d form.keys) (subnet_values_pass above around fits path d prefix.first form.policy prefix.is link.0))
-    (subnet_times_pass around.keys above.keys within.first.keys path d fits.keys inside.keys))
+    (term_pass around.keys above.keys within.first.keys path d fits.keys inside.keys))
     (subnet_own_pass above path d prefix.first class.first within.first.outside form prefix.is class.is inside.outside (inside.noted path)))
     (beside_pass around.outside around.kinds above.outside around.bare known within.first prefix.first (unless_empty class.first) path d subnet fits.outside inside.outside same_kinds same_bare within.gives))
     (none_in_both (options ++ pools ++ hosts) relay

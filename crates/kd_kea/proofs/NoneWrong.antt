@@ -24,8 +24,8 @@ use Rattle.kd_kea.specs.HostKinds.{finds_reservations, kinds_given}
 use Rattle.kd_kea.specs.HostName.{server_has_bare_names}
 use Rattle.kd_kea.specs.Hooks.{hooks_are_quiet}
 use Rattle.kd_kea.specs.Keys.{KeyUse, Plain, each_key, flag, fraction, has_only_keys, is_plain, key_use, keys_are_read, allows_value, no_list, served, skipped, usual}
-use Rattle.kd_kea.specs.Lifetimes.{bound_key, class_lifetime, go_together, has_class_lifetime, is_in_bounds, kea_keys, keys_given, lifetime_of, seconds_or_above, timer_key, timers_rise, usual_keys}
-use Rattle.kd_kea.specs.Notes.{KeyNote, above_by, around_of, boot_notes, class_lifetime_notes, flag_note, have_refused, hook_kind, hook_notes, interface_notes, is_above_least, is_below_most, kea_address, kea_below, key_notes, keys_below, keys_in, kind_of_note, lifetime_notes, member_keys, note_below, note_unless, notes_at, number_note, object_notes, off_note, off_notes, or_wrong, order_notes, own_notes, policy_notes, server_times, service_notes, share_notes, subnet_times, subnet_values, all_times, term_notes, timer_notes, unused_share, unused_shares, usual_note, value_notes}
+use Rattle.kd_kea.specs.Lifetimes.{bound_key, own_lifetime, go_together, has_class_lifetime, is_in_bounds, kea_keys, keys_given, lifetime_of, seconds_or_above, timer_key, timers_rise, usual_keys}
+use Rattle.kd_kea.specs.Notes.{KeyNote, above_by, around_of, boot_notes, class_lifetime_notes, flag_note, have_refused, hook_kind, hook_notes, interface_notes, is_above_least, is_below_most, is_said_below, kea_address, kea_below, key_notes, keys_below, keys_in, kind_of_note, lifetime_notes, member_keys, note_below, note_unless, notes_at, number_note, object_notes, off_note, off_notes, or_wrong, order_notes, own_notes, policy_notes, server_times, service_notes, share_notes, subnet_values, all_times, term_notes, timer_notes, unused_share, unused_shares, usual_note, value_notes}
 use Rattle.kd_kea.specs.Options.{kea_options, server_address}
 use Rattle.kd_kea.specs.Policy.{kea_policy, repeats_policy}
 use Rattle.kd_kea.specs.Settings.{has_server_form, turns_nothing_on}
@@ -127,10 +127,10 @@ unused_pass path d =
     (share_pass (fraction HALF) (path_below path (codes "t1-percent")) (get (codes "t1-percent") d))
     (share_pass (fraction SEVEN_EIGHTHS) (path_below path (codes "t2-percent")) (get (codes "t2-percent") d))
 
--- the shares of a subnet are not refused where they are not used
+-- shares that are not used are not refused
 pub shares_pass : (given : Option TermKeys) (path : List ℕ) (d : Data) → have_refused (share_notes given path d) ≡ false
 shares_pass None path d = refl
-shares_pass (Some keys) path d = by keys.calculated where
+shares_pass (Some keys) path d = by (keys.calculated || is_said_below d) where
   by : (b : Bool) → have_refused (if b then [] else unused_shares path d) ≡ false
   by true = refl
   by false = unused_pass path d
@@ -323,9 +323,12 @@ unfolding term_notes
 term_pass_by least above keys path d e timers =
     let given = keys_are_given above d keys e in
     let right_ones = keys_right above path d keys given.is in
-    none_in_both (lifetime_notes path d ++ timer_notes least path d) (order_notes (keys_below (Some above) d) path d)
+    let below = keys_below (Some above) d in
+    none_in_both (lifetime_notes path d ++ timer_notes least path d ++ order_notes below path d) (share_notes below path d)
+    (none_in_both (lifetime_notes path d ++ timer_notes least path d) (order_notes below path d)
     (none_in_both (lifetime_notes path d) (timer_notes least path d) right_ones.lifetime timers)
-    (order_pass above keys path d given)
+    (order_pass above keys path d given))
+    (shares_pass below path d)
 
 -- the times of leases in a subnet or a network
 pub term_pass : (known : Option TermKeys) (above keys : TermKeys) (path : List ℕ) (d : Data) → known ≡ Some above → kea_keys above d ≡ Some keys → have_refused (term_notes 0 known path d) ≡ false
@@ -334,14 +337,9 @@ term_pass known above keys path d e f =
     let right_ones = keys_right above path d keys given.is in
     subst (λ (o : Option TermKeys). have_refused (term_notes 0 o path d) ≡ false) (sym e) (term_pass_by 0 above keys path d f right_ones.timers)
 
-pub subnet_times_pass : (known : Option TermKeys) (above keys : TermKeys) (path : List ℕ) (d : Data) → known ≡ Some above → kea_keys above d ≡ Some keys → have_refused (subnet_times known path d) ≡ false
-unfolding subnet_times
-subnet_times_pass known above keys path d e f =
-    none_in_both (term_notes 0 known path d) (share_notes (keys_below known d) path d) (term_pass known above keys path d e f) (shares_pass (keys_below known d) path d)
-
 -- the lifetime of a class
-pub class_lifetime_pass : (path : List ℕ) (d : Data) (lifetime : Option Lifetime) → class_lifetime d ≡ Some lifetime → have_refused (class_lifetime_notes path d) ≡ false
-unfolding class_lifetime class_lifetime_notes lifetime_notes
+pub class_lifetime_pass : (path : List ℕ) (d : Data) (lifetime : Option Lifetime) → own_lifetime d ≡ Some lifetime → have_refused (class_lifetime_notes path d) ≡ false
+unfolding own_lifetime class_lifetime_notes lifetime_notes
 class_lifetime_pass path d lifetime e =
     let usual = came_from (seconds_or_above 1 None (get (codes "valid-lifetime") d)) _ lifetime e in
     let least = came_from (seconds_or_above 1 None (get (codes "min-valid-lifetime") d)) _ lifetime usual.gives in
@@ -349,7 +347,7 @@ class_lifetime_pass path d lifetime e =
     let of_usual = number_note 1 longest_lease (codes "valid-lifetime") path d in
     let of_least = number_note 1 longest_lease (codes "min-valid-lifetime") path d in
     let of_most = number_note 1 longest_lease (codes "max-valid-lifetime") path d in
-    wrong_none (is_some (class_lifetime d)) (path_below path (codes "valid-lifetime")) (of_usual ++ of_least ++ of_most) (ap is_some e)
+    wrong_none (is_some (own_lifetime d)) (path_below path (codes "valid-lifetime")) (of_usual ++ of_least ++ of_most) (ap is_some e)
     (none_in_both (of_usual ++ of_least) of_most
     (none_in_both of_usual of_least
     (seconds_pass 1 None (codes "valid-lifetime") path d usual.first usual.is)

@@ -24,7 +24,7 @@ use Rattle.kd_kea.specs.HostKinds.{kinds_given}
 use Rattle.kd_kea.specs.HostName.{server_has_bare_names}
 use Rattle.kd_kea.specs.Kea.{kea_settings}
 use Rattle.kd_kea.specs.Keys.{keys_are_read}
-use Rattle.kd_kea.specs.Lifetimes.{class_lifetime, has_class_lifetime, kea_keys, usual_keys}
+use Rattle.kd_kea.specs.Lifetimes.{own_lifetime, has_class_lifetime, kea_keys, usual_keys}
 use Rattle.kd_kea.specs.Network.{kea_subnets}
 use Rattle.kd_kea.specs.Options.{kea_options, server_address}
 use Rattle.kd_kea.specs.Plain.{plain}
@@ -53,7 +53,7 @@ entry_sound known d entry e =
     let text = came_from (text_if_given (get (codes "test") d)) _ entry name.gives in
     let options = came_from (kea_class_options known d) _ entry text.gives in
     let boot = came_from (own_boot d) _ entry options.gives in
-    let lifetime = came_from (class_lifetime d) _ entry boot.gives in
+    let lifetime = came_from (own_lifetime d) _ entry boot.gives in
     let value = came_from (get (codes "name") d) class_name_in name.first name.is in
     subst IsEntry (some_is _ entry lifetime.gives) (record {
       name = name_sound value.first name.first value.gives;

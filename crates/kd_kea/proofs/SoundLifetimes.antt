@@ -9,7 +9,7 @@ use Rattle.kd_config.specs.declared.term.Term.{Term}
 use Rattle.kd_json.proofs.Came.{came_from, passed_only, seen_from}
 use Rattle.kd_json.proofs.Sounds.{number_or_sound}
 use Rattle.kd_json.specs.Values.{number_if_given, number_within}
-use Rattle.kd_kea.specs.Lifetimes.{class_lifetime, go_together, has_times_alone, is_in_bounds, kea_keys, keys_given, lifetime_between, lifetime_by, lifetime_of, seconds_or_above, term_of, term_unless_alike, timers_rise, usual_keys}
+use Rattle.kd_kea.specs.Lifetimes.{own_lifetime, go_together, has_times_alone, is_in_bounds, kea_keys, keys_given, lifetime_between, lifetime_by, lifetime_of, seconds_or_above, term_of, term_unless_alike, timers_rise, usual_keys}
 use Rattle.kd_kea.specs.Times.{has_usual_shares}
 use Rattle.kd_kea.specs.Values.{flag_or}
 use Rattle.kd_kea.specs.declared.objects.lifetimes.TermKeys.{TermKeys}
@@ -62,8 +62,8 @@ by_sound (Some usual) least most lifetime u l m e =
     let test = passed_only (is_in_bounds (lifetime_between least usual most)) (Some (lifetime_between least usual most)) lifetime e in
     subst (λ (o : Option Lifetime). IfSome o IsLifetime) test.1 (between_sound least usual most l u m test.0)
 
-pub class_lifetime_sound : (d : Data) (lifetime : Option Lifetime) → class_lifetime d ≡ Some lifetime → IfSome lifetime IsLifetime
-unfolding class_lifetime
+pub class_lifetime_sound : (d : Data) (lifetime : Option Lifetime) → own_lifetime d ≡ Some lifetime → IfSome lifetime IsLifetime
+unfolding own_lifetime
 class_lifetime_sound d lifetime e =
     let usual = came_from (seconds_or_above 1 None (get (codes "valid-lifetime") d)) _ lifetime e in
     let least = came_from (seconds_or_above 1 None (get (codes "min-valid-lifetime") d)) _ lifetime usual.gives in

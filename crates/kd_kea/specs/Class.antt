@@ -13,7 +13,7 @@ use Rattle.kd_json.specs.declared.objects.class.TestSource.TheVariants.{Nothing,
 use Rattle.kd_kea.specs.Boot.{own_boot}
 use Rattle.kd_kea.specs.Definitions.{kea_definitions}
 use Rattle.kd_kea.specs.Keys.{keys_are_read}
-use Rattle.kd_kea.specs.Lifetimes.{class_lifetime}
+use Rattle.kd_kea.specs.Lifetimes.{own_lifetime}
 use Rattle.kd_kea.specs.Options.{kea_options}
 use Rattle.kd_kea.specs.Tables.{class_keys}
 use Rattle.kd_kea.specs.Values.{unless_empty}
@@ -39,5 +39,5 @@ kea_class known d = do
   text ← text_if_given (get (codes "test") d)
   options ← kea_class_options known d
   boot ← own_boot d
-  lifetime ← class_lifetime d
+  lifetime ← own_lifetime d
   Some (record { name = name; source = source_by (unless_empty text); options = options; boot = boot; lifetime = lifetime })

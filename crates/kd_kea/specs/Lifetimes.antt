@@ -50,33 +50,33 @@ lifetime_by (Some usual) least most =
     (Some (lifetime_between least usual most))
 
 -- the lifetime that a class has, if it has one
-unfoldable pub class_lifetime : Data → Option (Option Lifetime)
-class_lifetime d = do
+unfoldable pub own_lifetime : Data → Option (Option Lifetime)
+own_lifetime d = do
   usual ← seconds_or_above 1 None (get (codes "valid-lifetime") d)
   least ← seconds_or_above 1 None (get (codes "min-valid-lifetime") d)
   most ← seconds_or_above 1 None (get (codes "max-valid-lifetime") d)
   lifetime_by usual least most
 
--- a value has a key for a lifetime
-abbrev pub has_lifetime_key : Data → Bool
-has_lifetime_key d =
-    is_some (get (codes "valid-lifetime") d)
-    || is_some (get (codes "min-valid-lifetime") d)
-    || is_some (get (codes "max-valid-lifetime") d)
+-- one of these values has a key
+abbrev pub is_key_among : List ℕ → Items → Bool
+is_key_among key no_items = false
+is_key_among key (item d ds) = is_some (get key d) || is_key_among key ds
 
--- one of these values has such a key
-abbrev pub is_lifetime_among : Items → Bool
-is_lifetime_among no_items = false
-is_lifetime_among (item d ds) = has_lifetime_key d || is_lifetime_among ds
+-- one of the values of a list, if there is one, has a key
+abbrev pub is_key_in : List ℕ → Option Items → Bool
+is_key_in key None = false
+is_key_in key (Some items) = is_key_among key items
 
--- a class has such a key
-abbrev pub is_lifetime_in : Option Items → Bool
-is_lifetime_in None = false
-is_lifetime_in (Some classes) = is_lifetime_among classes
+-- a value in the list at a key has another key
+abbrev pub is_key_below : List ℕ → List ℕ → Data → Bool
+is_key_below list key d = is_key_in key (get list d >>= as_array)
 
--- a class in the value of `Dhcp4` has such a key
+-- a class in the value of `Dhcp4` has a lifetime
 abbrev pub has_class_lifetime : Data → Bool
-has_class_lifetime d = is_lifetime_in (get (codes "client-classes") d >>= as_array)
+has_class_lifetime d =
+    is_key_below (codes "client-classes") (codes "valid-lifetime") d
+    || is_key_below (codes "client-classes") (codes "min-valid-lifetime") d
+    || is_key_below (codes "client-classes") (codes "max-valid-lifetime") d
 
 -- ---- the whole server, networks and subnets
 

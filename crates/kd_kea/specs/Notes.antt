@@ -26,7 +26,7 @@ use Rattle.kd_kea.specs.HostKinds.{finds_reservations, is_found_if_given, kinds_
 use Rattle.kd_kea.specs.HostName.{has_bare_names, host_name, may_be_named, server_has_bare_names}
 use Rattle.kd_kea.specs.Hooks.{hooks_are_quiet}
 use Rattle.kd_kea.specs.Keys.{KeyUse, Plain, flag, fraction, is_plain, key_use, allows_value, no_list, skipped}
-use Rattle.kd_kea.specs.Lifetimes.{bound_key, class_lifetime, has_class_lifetime, kea_keys, keys_given, lifetime_of, timer_key, timers_rise, usual_keys}
+use Rattle.kd_kea.specs.Lifetimes.{bound_key, own_lifetime, has_class_lifetime, is_key_below, kea_keys, keys_given, lifetime_of, timer_key, timers_rise, usual_keys}
 use Rattle.kd_kea.specs.Network.{is_interface_of, kea_network}
 use Rattle.kd_kea.specs.Options.{is_served_space, kea_entry, kea_options, server_address}
 use Rattle.kd_kea.specs.Plain.{plain}
@@ -188,10 +188,30 @@ unused_shares path d =
     notes_at (unused_share (fraction HALF)) path (codes "t1-percent") d
     ++ notes_at (unused_share (fraction SEVEN_EIGHTHS)) path (codes "t2-percent") d
 
--- the notes on the shares of T1 and T2 of a subnet, if they are known not to be used
+-- a subnet of one of these networks says whether times are calculated
+abbrev pub is_said_by_members : Items → Bool
+is_said_by_members no_items = false
+is_said_by_members (item d ds) =
+    is_key_below (codes "subnet4") (codes "calculate-tee-times") d || is_said_by_members ds
+
+-- a subnet of one of the networks of a list, if there is one, says so
+abbrev pub is_said_in_networks : Option Items → Bool
+is_said_in_networks None = false
+is_said_in_networks (Some networks) = is_said_by_members networks
+
+-- a subnet or a network in a value says whether times are calculated
+abbrev pub is_said_below : Data → Bool
+is_said_below d =
+    is_key_below (codes "subnet4") (codes "calculate-tee-times") d
+    || is_key_below (codes "shared-networks") (codes "calculate-tee-times") d
+    || is_said_in_networks (get (codes "shared-networks") d >>= as_array)
+
+-- the notes on the shares of T1 and T2 where the keys say this, if they are not used: times are not
+-- calculated
 abbrev pub share_notes : Option TermKeys → ObjectNotes
 share_notes None path d = []
-share_notes (Some keys) path d = if keys.calculated then [] else unused_shares path d
+share_notes (Some keys) path d =
+    if keys.calculated || is_said_below d then [] else unused_shares path d
 
 -- the notes on what other services and hooks do, and on where the configuration is kept
 unfoldable pub service_notes : ObjectNotes
@@ -333,16 +353,19 @@ order_notes given path d =
     Wrong path (share_key d)
 
 -- the notes on the keys for the times of leases, where they say this above the value: each by itself,
--- and then those that do not go together
+-- and then those that do not go together, and shares that are not used
 unfoldable pub term_notes : ℕ → Option TermKeys → ObjectNotes
 term_notes least above path d =
-    lifetime_notes path d ++ timer_notes least path d ++ order_notes (keys_below above d) path d
+    lifetime_notes path d
+    ++ timer_notes least path d
+    ++ order_notes (keys_below above d) path d
+    ++ share_notes (keys_below above d) path d
 
 -- the notes on the lifetime of a class: its keys by themselves, and then one of them if they do not go
 -- together
 unfoldable pub class_lifetime_notes : ObjectNotes
 class_lifetime_notes path d =
-    or_wrong (is_some (class_lifetime d)) (path_below path (codes "valid-lifetime"))
+    or_wrong (is_some (own_lifetime d)) (path_below path (codes "valid-lifetime"))
     (lifetime_notes path d)
 
 -- the notes on the lease and offer times in the value of `Dhcp4`: each by itself, and then one
@@ -503,11 +526,6 @@ kea_below (Some above) known d = do
   _ ← kea_subnet above known d
   Some tt
 
--- the notes on the keys for the times of leases in a subnet, where they say this above it
-unfoldable pub subnet_times : Option TermKeys → ObjectNotes
-subnet_times above path d =
-    term_notes 0 above path d ++ share_notes (keys_below above d) path d
-
 -- the notes on the values of a subnet that are wrong by themselves
 unfoldable pub subnet_own : ObjectNotes
 subnet_own path d =
@@ -532,7 +550,7 @@ subnet_notes around known path d =
     object_notes (is_some (kea_below (above_by around) known d)) path d
     (own_notes subnet_keys path d
     ++ subnet_values around path d
-    ++ subnet_times around.keys path d
+    ++ term_notes 0 around.keys path d
     ++ subnet_own path d
     ++ beside_note around.outside around.kinds around.bare known path d
     ++ subnet_lists known around.kinds around.bare path d)

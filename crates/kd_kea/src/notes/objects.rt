@@ -3,7 +3,7 @@ ghost use Rattle.serde_json.specs.Find.{get};
 ghost use Rattle.serde_json.specs.View.{members_view, view};
 ghost use Rattle.kd_kea.specs.HostName.{has_bare_names};
 ghost use Rattle.kd_kea.specs.Keys.{key_use};
-ghost use Rattle.kd_kea.specs.Notes.{all_subnet_notes, class_notes, data_notes, definition_note, definition_notes, host_notes, key_notes, kind_of_note, listed_notes, lists_by, member_keys, note_below, option_notes, own_notes, pool_notes, relay_notes, required_notes, root_notes, server_lists, server_notes, subnet_lists, subnet_notes, subnet_own, subnet_times, subnet_values};
+ghost use Rattle.kd_kea.specs.Notes.{all_subnet_notes, class_notes, data_notes, definition_note, definition_notes, host_notes, key_notes, kind_of_note, listed_notes, lists_by, member_keys, note_below, option_notes, own_notes, pool_notes, relay_notes, required_notes, root_notes, server_lists, server_notes, subnet_lists, subnet_notes, subnet_own, subnet_values, term_notes};
 ghost use Rattle.kd_kea.specs.Scope.{definitions_in};
 ghost use Rattle.kd_kea.specs.Tables.{key_table, subnet_keys};
 
@@ -13,7 +13,7 @@ use crate::notes::NoteKind;
 use crate::notes::around::{Around, BelowReader, is_beside, read_around};
 use crate::notes::list::NoteList;
 use crate::notes::networks::NetworkObject;
-use crate::notes::times::{note_class_lifetime, note_server_times, note_subnet_times};
+use crate::notes::times::{note_class_lifetime, note_server_times, note_term};
 use crate::notes::values::{
     note_boot, note_host_values, note_server_flags, note_services, note_subnet_own,
     note_subnet_values, note_text,
@@ -241,12 +241,12 @@ fn note_subnet_keys(
     ensures { OnOk result
         (notes.new ≡ notes.old ++ (own_notes subnet_keys path.now (view subnet.now)
         ++ subnet_values around path.now (view subnet.now)
-        ++ subnet_times around.keys path.now (view subnet.now)
+        ++ term_notes 0 around.keys path.now (view subnet.now)
         ++ subnet_own path.now (view subnet.now))) }
 {
     note_keys(notes, subnet, path, ObjectKind::Subnet)?;
     note_subnet_values(notes, subnet, path, around)?;
-    note_subnet_times(notes, subnet, path, around.keys)?;
+    note_term(notes, subnet, path, 0, around.keys)?;
     note_subnet_own(notes, subnet, path)
 }
 

@@ -1,8 +1,9 @@
-ghost use Rattle.std.specs.Prelude.{◌≡◌, ◌++◌, IfOk, OnOk};
-ghost use Rattle.serde_json.specs.View.{view};
+ghost use Rattle.std.specs.Prelude.{◌≡◌, ◌++◌, IfOk, OnOk, codes, option_and_then};
+ghost use Rattle.serde_json.specs.Find.{as_array, get};
+ghost use Rattle.serde_json.specs.View.{items_view, view};
 ghost use Rattle.kd_config.specs.Sound.{longest_lease};
-ghost use Rattle.kd_kea.specs.Lifetimes.{class_lifetime, keys_given, timers_rise};
-ghost use Rattle.kd_kea.specs.Notes.{class_lifetime_notes, is_above_least, is_below_most, keys_below, lifetime_notes, number_note, order_notes, pass_if_known, server_times, share_notes, subnet_times, term_notes, timer_notes, unused_share, unused_shares};
+ghost use Rattle.kd_kea.specs.Lifetimes.{own_lifetime, keys_given, timers_rise};
+ghost use Rattle.kd_kea.specs.Notes.{class_lifetime_notes, is_above_least, is_below_most, keys_below, is_said_below, is_said_by_members, is_said_in_networks, lifetime_notes, number_note, order_notes, pass_if_known, server_times, share_notes, term_notes, timer_notes, unused_share, unused_shares};
 ghost use Rattle.kd_kea.specs.Rows.{plain_of};
 ghost use Rattle.kd_kea.specs.Times.{has_usual_shares};
 
@@ -14,7 +15,7 @@ use crate::notes::values::{Number, note_flag, note_number};
 use crate::notes::walk::{NotedObject, append_checked, note_failed, note_value};
 use crate::objects::alone::read_alone;
 use crate::objects::lifetimes::{
-    TermKeys, class_lifetime_of, given_keys_of, key_of_bound, key_of_timers,
+    TermKeys, class_lifetime_of, given_keys_of, is_given_below, key_of_bound, key_of_timers,
 };
 use crate::objects::times::{
     HALF, LONGEST, SEVEN_EIGHTHS, has_usable_shares, key_of_shares, key_of_times,
@@ -54,24 +55,8 @@ pub(super) fn note_server_times(
     append_checked(notes, inner, &TimesReader, dhcp4, &last)
 }
 
-// Notes the keys for the times of leases in a subnet, where they say this above it.
-#[tactic(auto, unfolding(crate::specs::Notes::subnet_times))]
-pub(super) fn note_subnet_times(
-    notes: &mut NoteList,
-    subnet: &Value,
-    path: &str,
-    above: Option<TermKeys>,
-) -> Result<(), AllocError>
-    ensures { OnOk result
-        (notes.new ≡ notes.old ++ subnet_times above path.now (view subnet.now)) }
-{
-    let keys = known_keys(notes.allocator(), subnet, above)?;
-    note_term(notes, subnet, path, 0, above)?;
-    note_shares(notes, subnet, path, keys)
-}
-
 // Notes the keys for the times of leases, where they say this above the object: each by itself, T1 and
-// T2 from a least time on, and then those that do not go together.
+// T2 from a least time on, and then those that do not go together, and shares that are not used.
 #[tactic(auto, unfolding(crate::specs::Notes::term_notes))]
 pub(super) fn note_term(
     notes: &mut NoteList,
@@ -86,7 +71,8 @@ pub(super) fn note_term(
     let keys = known_keys(notes.allocator(), object, above)?;
     note_lifetime(notes, object, path)?;
     note_timers(notes, object, path, least)?;
-    note_order(notes, object, path, keys)
+    note_order(notes, object, path, keys)?;
+    note_shares(notes, object, path, keys)
 }
 
 // Returns what the keys of an object say, if it is known what they say above it.
@@ -258,7 +244,7 @@ struct ClassLifetimeReader;
 impl EntryReader for ClassLifetimeReader {
     type Entry = Option<Lifetime>;
 
-    ghost means = { λ _. class_lifetime };
+    ghost means = { λ _. own_lifetime };
 
     fn read(
         &self,
@@ -287,19 +273,57 @@ impl NotedObject for UnusedShare {
     }
 }
 
-// Notes the shares of T1 and T2 of a subnet, if they are known not to be used.
+// Notes the shares of T1 and T2 where the keys say this, if they are not used: times are not calculated.
 fn note_shares(
     notes: &mut NoteList,
-    subnet: &Value,
+    object: &Value,
     path: &str,
     keys: Option<TermKeys>,
 ) -> Result<(), AllocError>
-    ensures { OnOk result (notes.new ≡ notes.old ++ share_notes keys path.now (view subnet.now)) }
+    ensures { OnOk result (notes.new ≡ notes.old ++ share_notes keys path.now (view object.now)) }
 {
     match keys {
-        Some(keys) if !keys.calculated => note_unused_shares(notes, subnet, path),
+        Some(keys) if !keys.calculated && !is_calculation_said(object) => {
+            note_unused_shares(notes, object, path)
+        }
         _ => Ok(()),
     }
+}
+
+// Reports whether a subnet or a network in a value says whether times are calculated.
+fn is_calculation_said(object: &Value) -> bool
+    ensures { result ≡ is_said_below (view object.now) }
+{
+    let key = "calculate-tee-times";
+    is_given_below(object, "subnet4", key)
+        || is_given_below(object, "shared-networks", key)
+        || is_said_in_any_network(object)
+}
+
+// Reports whether a subnet of one of the networks in a value says so.
+fn is_said_in_any_network(object: &Value) -> bool
+    ensures { result
+        ≡ is_said_in_networks (option_and_then as_array (get (codes "shared-networks") (view object.now))) }
+{
+    let Some(value) = object.get("shared-networks") else {
+        return false;
+    };
+    match value.as_array() {
+        Some(networks) => is_said_among(networks.as_slice()),
+        None => false,
+    }
+}
+
+// Reports whether a subnet of one of these networks says so.
+fn is_said_among(networks: &[Value]) -> bool
+    ensures { result ≡ is_said_by_members (items_view networks.now) }
+{
+    for network in networks {
+        if is_given_below(network, "subnet4", "calculate-tee-times") {
+            return true;
+        }
+    }
+    false
 }
 
 // Notes shares of T1 and T2 that are not used.

@@ -4,7 +4,7 @@ ghost use Rattle.serde_json.specs.View.{items_view, view};
 ghost use Rattle.kd_config.specs.Sound.{longest_lease};
 ghost use Rattle.kd_json.specs.Gives.{Means};
 ghost use Rattle.kd_json.specs.declared.objects.faults.SettingsFault.TheVariants.{Memory};
-ghost use Rattle.kd_kea.specs.Lifetimes.{bound_key, class_lifetime, has_class_lifetime, has_lifetime_key, has_times_alone, is_in_bounds, is_lifetime_among, kea_keys, keys_given, lifetime_between, lifetime_by, lifetime_of, seconds_or_above, term_of, term_unless_alike, timer_by, timer_key, timers_rise, usual_keys};
+ghost use Rattle.kd_kea.specs.Lifetimes.{bound_key, own_lifetime, has_class_lifetime, has_times_alone, is_in_bounds, is_key_among, is_key_below, kea_keys, keys_given, lifetime_between, lifetime_by, lifetime_of, seconds_or_above, term_of, term_unless_alike, timer_by, timer_key, timers_rise, usual_keys};
 
 use crate::objects::flags::flag_or_default;
 use crate::objects::subnet::Above;
@@ -121,10 +121,10 @@ pub(crate) fn keys_of(
 {
     let keys = given_keys_of(alloc, object, at, above)?;
     let Lifetime { least, usual, most } = keys.lifetime();
-    if !(least <= usual) {
+    if usual < least {
         return Err(bad_value(alloc, at, key_of_bound(object, "min-valid-lifetime")));
     }
-    if !(usual <= most) {
+    if most < usual {
         return Err(bad_value(alloc, at, key_of_bound(object, "max-valid-lifetime")));
     }
     if !keys.has_timers_in_order() {
@@ -209,13 +209,13 @@ pub(crate) fn key_of_timers(object: &Value) -> &'static str
 }
 
 // Reads the lifetime that a class has, if it has one.
-#[tactic(auto, unfolding(crate::specs::Lifetimes::class_lifetime))]
+#[tactic(auto, unfolding(crate::specs::Lifetimes::own_lifetime))]
 pub(crate) fn class_lifetime_of(
     alloc: Global,
     class: &Value,
     at: &Place<'_>,
 ) -> Result<Option<Lifetime>, SettingsFault>
-    ensures { Means Memory result (class_lifetime (view class.now)) }
+    ensures { Means Memory result (own_lifetime (view class.now)) }
 {
     let usual = seconds_or(alloc, class, at, "valid-lifetime", 1, None)?;
     let least = seconds_or(alloc, class, at, "min-valid-lifetime", 1, None)?;
@@ -259,38 +259,39 @@ fn is_bounded(lifetime: Lifetime) -> bool
     lifetime.least <= lifetime.usual && lifetime.usual <= lifetime.most
 }
 
-// Reports whether a class in the value of `Dhcp4` has a key for a lifetime.
+// Reports whether a class in the value of `Dhcp4` has a lifetime.
 pub(crate) fn is_lifetime_by_class(dhcp4: &Value) -> bool
     ensures { result ≡ has_class_lifetime (view dhcp4.now) }
 {
-    let Some(value) = dhcp4.get("client-classes") else {
+    let classes = "client-classes";
+    is_given_below(dhcp4, classes, "valid-lifetime")
+        || is_given_below(dhcp4, classes, "min-valid-lifetime")
+        || is_given_below(dhcp4, classes, "max-valid-lifetime")
+}
+
+// Reports whether a value in the list at a key has another key.
+pub(crate) fn is_given_below(object: &Value, list: &str, key: &str) -> bool
+    ensures { result ≡ is_key_below list.now key.now (view object.now) }
+{
+    let Some(value) = object.get(list) else {
         return false;
     };
     match value.as_array() {
-        Some(classes) => is_any_lifetime(classes.as_slice()),
+        Some(values) => is_given_among(values.as_slice(), key),
         None => false,
     }
 }
 
-// Reports whether one of these values has a key for a lifetime.
-fn is_any_lifetime(values: &[Value]) -> bool
-    ensures { result ≡ is_lifetime_among (items_view values.now) }
+// Reports whether one of these values has a key.
+fn is_given_among(values: &[Value], key: &str) -> bool
+    ensures { result ≡ is_key_among key.now (items_view values.now) }
 {
     for value in values {
-        if is_lifetime_key_given(value) {
+        if value.get(key).is_some() {
             return true;
         }
     }
     false
-}
-
-// Reports whether a value has a key for a lifetime.
-fn is_lifetime_key_given(object: &Value) -> bool
-    ensures { result ≡ has_lifetime_key (view object.now) }
-{
-    object.get("valid-lifetime").is_some()
-        || object.get("min-valid-lifetime").is_some()
-        || object.get("max-valid-lifetime").is_some()
 }
 
 // Returns the term of leases, unless every lease has the times of the whole server.

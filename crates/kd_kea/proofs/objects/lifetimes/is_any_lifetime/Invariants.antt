@@ -1,9 +1,0 @@
-use Rattle.std.proofs.Common.{◌≡◌, drop}
-use Rattle.serde_json.specs.View.{items_view}
-use Rattle.kd_kea.specs.Lifetimes.{is_lifetime_among}
-use Rattle.kd_kea.proofs.objects.lifetimes.is_any_lifetime.Given as goal
-
-abbrev pub invariant-loop-value : goal.invariant-loop-value
-invariant-loop-value l =
-    is_lifetime_among (items_view l.values)
-    ≡ is_lifetime_among (items_view (drop l.value-index l.values))
