@@ -5,7 +5,6 @@ use borrow.Author.Tests.{leb-true}
 use Rattle.kd_classes.specs.declared.lifetime.Lifetime.{Lifetime}
 use Rattle.kd_config.proofs.Tests.{both_passed, some_is}
 use Rattle.kd_config.specs.Sound.{IsFrom, IsLifetime, longest_lease}
-use Rattle.kd_config.specs.declared.term.Term.{Term}
 use Rattle.kd_json.proofs.Came.{came_from, passed_only, seen_from}
 use Rattle.kd_json.proofs.Sounds.{number_or_sound}
 use Rattle.kd_json.specs.Values.{number_if_given, number_within}

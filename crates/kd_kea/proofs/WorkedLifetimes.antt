@@ -3,7 +3,7 @@
 use Rattle.std.proofs.Common.{◌≡◌, ℕ, Bool, true, false, List, codes, Option, Some, None, refl}
 use Rattle.std.specs.Prelude.{is_some, option_map}
 use Rattle.std.specs.Float.{round_with}
-use Rattle.std.specs.Float.Ieee.{mul, of_int, to_unsigned}
+use Rattle.std.specs.Float.Ieee.{lt, mul, of_bits, of_int, to_unsigned}
 use Rattle.std.specs.Fmt.{digits}
 use Rattle.std.specs.Str.{chars, is_utf8}
 use Rattle.serde_json.proofs.OnLiterals.{serde_json_on_literals}
@@ -11,14 +11,12 @@ use Rattle.serde_json.specs.Data.{Data}
 use Rattle.kd_classes.specs.Boot.{no_boot}
 use Rattle.kd_classes.specs.declared.lifetime.Lifetime.{Lifetime}
 use Rattle.kd_config.specs.Term.{rebind_sent, renew_sent}
-use Rattle.kd_config.specs.declared.term.Term.{Term}
 use Rattle.kd_json.specs.Document.{value_spelled}
 use Rattle.kd_json.specs.Values.{number_within}
 use Rattle.kd_kea.specs.HostKinds.{kinds_given}
 use Rattle.kd_kea.specs.Lifetimes.{own_lifetime, has_class_lifetime, kea_keys, keys_given, lifetime_of, term_of, term_unless_alike, usual_keys}
 use Rattle.kd_kea.specs.Times.{kea_times}
 use Rattle.kd_kea.specs.declared.objects.lifetimes.TermKeys.{TermKeys}
-use Rattle.kd_kea.specs.declared.objects.subnet.Above.{Above}
 use Rattle.kd_wire.specs.Steps.{◌>>=◌}
 
 -- ---- classes
@@ -142,29 +140,29 @@ unfolding serde_json_on_literals chars digits is_utf8 value_spelled number_withi
 same_timers = refl
 
 calculated_in_subnet : sent (codes "{\"valid-lifetime\": 1000, \"renew-timer\": 300}") (codes "{}") (codes "{\"calculate-tee-times\": true}") ≡ Some (Some 300, Some 875)
-unfolding serde_json_on_literals chars digits is_utf8 value_spelled number_within keys_given kea_keys mul of_int round_with to_unsigned
+unfolding serde_json_on_literals chars digits is_utf8 value_spelled number_within keys_given kea_keys lt of_bits mul of_int round_with to_unsigned
 calculated_in_subnet = refl
 
 not_calculated_in_subnet : sent (codes "{\"valid-lifetime\": 1000, \"calculate-tee-times\": true}") (codes "{}") (codes "{\"calculate-tee-times\": false}") ≡ Some (None, None)
-unfolding serde_json_on_literals chars digits is_utf8 value_spelled number_within keys_given kea_keys mul of_int round_with to_unsigned
+unfolding serde_json_on_literals chars digits is_utf8 value_spelled number_within keys_given kea_keys lt of_bits mul of_int round_with to_unsigned
 not_calculated_in_subnet = refl
 
 shares_by_place : sent (codes "{\"valid-lifetime\": 1000, \"calculate-tee-times\": true}") (codes "{\"t1-percent\": 0.3}") (codes "{\"t2-percent\": 0.6}") ≡ Some (Some 300, Some 600)
-unfolding serde_json_on_literals chars digits is_utf8 value_spelled number_within keys_given kea_keys mul of_int round_with to_unsigned
+unfolding serde_json_on_literals chars digits is_utf8 value_spelled number_within keys_given kea_keys lt of_bits mul of_int round_with to_unsigned
 shares_by_place = refl
 
 -- the share of T1 is less than that of T2, wherever they are given; where they are not used, they may
 -- be any
 wrong_share : sent (codes "{\"calculate-tee-times\": true}") (codes "{}") (codes "{\"t1-percent\": 0.9}") ≡ None
-unfolding serde_json_on_literals chars digits is_utf8 value_spelled number_within keys_given kea_keys mul of_int round_with to_unsigned
+unfolding serde_json_on_literals chars digits is_utf8 value_spelled number_within keys_given kea_keys lt of_bits mul of_int round_with to_unsigned
 wrong_share = refl
 
 unused_share_of_server : sent (codes "{\"valid-lifetime\": 1000, \"t1-percent\": 0.9}") (codes "{}") (codes "{}") ≡ Some (None, None)
-unfolding serde_json_on_literals chars digits is_utf8 value_spelled number_within keys_given kea_keys mul of_int round_with to_unsigned
+unfolding serde_json_on_literals chars digits is_utf8 value_spelled number_within keys_given kea_keys lt of_bits mul of_int round_with to_unsigned
 unused_share_of_server = refl
 
 used_share_of_server : sent (codes "{\"valid-lifetime\": 1000, \"t1-percent\": 0.9}") (codes "{}") (codes "{\"calculate-tee-times\": true}") ≡ None
-unfolding serde_json_on_literals chars digits is_utf8 value_spelled number_within keys_given kea_keys mul of_int round_with to_unsigned
+unfolding serde_json_on_literals chars digits is_utf8 value_spelled number_within keys_given kea_keys lt of_bits mul of_int round_with to_unsigned
 used_share_of_server = refl
 
 -- ---- terms of subnets that differ from the times of the whole server
@@ -193,7 +191,7 @@ unfolding serde_json_on_literals chars digits is_utf8 value_spelled number_withi
 repeated = refl
 
 calculated_alike : differs (codes "{\"valid-lifetime\": 3601, \"calculate-tee-times\": true}") (codes "{}") ≡ Some false
-unfolding serde_json_on_literals chars digits is_utf8 value_spelled number_within keys_given kea_keys kea_times mul of_int round_with to_unsigned
+unfolding serde_json_on_literals chars digits is_utf8 value_spelled number_within keys_given kea_keys kea_times lt of_bits mul of_int round_with to_unsigned
 calculated_alike = refl
 
 lifetime_differs : differs (codes "{\"valid-lifetime\": 4000}") (codes "{\"valid-lifetime\": 5000}") ≡ Some true

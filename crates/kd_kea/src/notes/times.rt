@@ -116,9 +116,9 @@ impl EntryReader for GivenReader {
 fn note_lifetime(notes: &mut NoteList, object: &Value, path: &str) -> Result<(), AllocError>
     ensures { OnOk result (notes.new ≡ notes.old ++ lifetime_notes path.now (view object.now)) }
 {
-    note_number(notes, object, path, seconds("valid-lifetime", 1))?;
-    note_number(notes, object, path, seconds("min-valid-lifetime", 1))?;
-    note_number(notes, object, path, seconds("max-valid-lifetime", 1))
+    note_seconds(notes, object, path, "valid-lifetime", 1)?;
+    note_seconds(notes, object, path, "min-valid-lifetime", 1)?;
+    note_seconds(notes, object, path, "max-valid-lifetime", 1)
 }
 
 // Notes the keys of T1 and T2, each by itself: a time has at least so many seconds.
@@ -131,22 +131,28 @@ fn note_timers(
 ) -> Result<(), AllocError>
     ensures { OnOk result (notes.new ≡ notes.old ++ timer_notes least path.now (view object.now)) }
 {
-    note_number(notes, object, path, seconds("renew-timer", least))?;
-    note_number(notes, object, path, seconds("rebind-timer", least))?;
+    note_seconds(notes, object, path, "renew-timer", least)?;
+    note_seconds(notes, object, path, "rebind-timer", least)?;
     note_flag(notes, object, path, "calculate-tee-times")
 }
 
-// Returns a key of a time, which has at least so many seconds.
-fn seconds(key: &'static str, least: u32) -> Number
-    ensures key { result.key.now ≡ key.now }
-    ensures least { result.least ≡ least }
-    ensures most { result.most ≡ longest_lease }
+// Notes that a time is wrong, unless it is absent or has at least so many seconds.
+fn note_seconds(
+    notes: &mut NoteList,
+    object: &Value,
+    path: &str,
+    key: &'static str,
+    least: u32,
+) -> Result<(), AllocError>
+    ensures { OnOk result (notes.new
+        ≡ notes.old ++ number_note least longest_lease key.now path.now (view object.now)) }
 {
-    Number {
+    let seconds = Number {
         key,
         least,
         most: LONGEST,
-    }
+    };
+    note_number(notes, object, path, seconds)
 }
 
 // Notes keys that say this, and do not go together.
