@@ -1,8 +1,8 @@
-ghost use Rattle.std.specs.Prelude.{◌≡◌, ◌++◌, IfOk, OnOk, codes, option_and_then};
+ghost use Rattle.std.specs.Prelude.{◌≡◌, ◌++◌, IfOk, OnOk, Some, codes, option_and_then};
 ghost use Rattle.serde_json.specs.Find.{as_array, get};
 ghost use Rattle.serde_json.specs.View.{items_view, view};
 ghost use Rattle.kd_config.specs.Sound.{longest_lease};
-ghost use Rattle.kd_kea.specs.Lifetimes.{own_lifetime, keys_given, timers_rise};
+ghost use Rattle.kd_kea.specs.Lifetimes.{keys_given, own_lifetime, timers_rise, usual_keys};
 ghost use Rattle.kd_kea.specs.Notes.{class_lifetime_notes, is_above_least, is_below_most, keys_below, is_said_below, is_said_by_members, is_said_in_networks, lifetime_notes, number_note, order_notes, pass_if_known, server_times, share_notes, term_notes, timer_notes, unused_share, unused_shares};
 ghost use Rattle.kd_kea.specs.Rows.{plain_of};
 ghost use Rattle.kd_kea.specs.Times.{has_usual_shares};
@@ -39,6 +39,17 @@ pub(super) fn note_server_times(
 {
     let last = notes.path_of_key(path, key_of_times(dhcp4))?;
     let mut inner = NoteList::new(notes.allocator());
+    note_each_time(&mut inner, dhcp4, path)?;
+    append_checked(notes, inner, &TimesReader, dhcp4, &last)
+}
+
+// Notes the lease and offer times of the whole server, each by itself.
+fn note_each_time(notes: &mut NoteList, dhcp4: &Value, path: &str) -> Result<(), AllocError>
+    ensures { OnOk result (notes.new ≡ notes.old
+        ++ (term_notes 1 (Some usual_keys) path.now (view dhcp4.now)
+        ++ number_note 0 86400 (codes "offer-lifetime") path.now (view dhcp4.now)
+        ++ number_note 1 31536000 (codes "decline-probation-period") path.now (view dhcp4.now))) }
+{
     let offer = Number {
         key: "offer-lifetime",
         least: 0,
@@ -49,10 +60,17 @@ pub(super) fn note_server_times(
         least: 1,
         most: 31_536_000,
     };
-    note_term(&mut inner, dhcp4, path, 1, Some(TermKeys::usual()))?;
-    note_number(&mut inner, dhcp4, path, offer)?;
-    note_number(&mut inner, dhcp4, path, decline)?;
-    append_checked(notes, inner, &TimesReader, dhcp4, &last)
+    note_server_term(notes, dhcp4, path)?;
+    note_number(notes, dhcp4, path, offer)?;
+    note_number(notes, dhcp4, path, decline)
+}
+
+// Notes the keys for the times of leases in the value of `Dhcp4`.
+fn note_server_term(notes: &mut NoteList, dhcp4: &Value, path: &str) -> Result<(), AllocError>
+    ensures { OnOk result
+        (notes.new ≡ notes.old ++ term_notes 1 (Some usual_keys) path.now (view dhcp4.now)) }
+{
+    note_term(notes, dhcp4, path, 1, Some(TermKeys::usual()))
 }
 
 // Notes the keys for the times of leases, where they say this above the object: each by itself, T1 and
