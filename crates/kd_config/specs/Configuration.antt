@@ -49,14 +49,14 @@ times_built_in =
 
 -- the pool of the built-in configuration, 192.0.2.10 and 192.0.2.11
 abbrev pub builtin_pool : Pool
-builtin_pool = record { range = record { first = 0xc000020a; last = 0xc000020b }; class = None; options = [] }
+builtin_pool = record { range = record { first = 0xc000020a; last = 0xc000020b }; classes = []; options = [] }
 
 -- the subnet of the built-in configuration, 192.0.2.0/24
 abbrev pub subnet_built_in : Subnet
 subnet_built_in = record {
   prefix = record { address = 0xc0000200; length = 24 };
   relays = [];
-  class = None;
+  classes = [];
   pools = builtin_pool ∷ [];
   reservations = [];
   options = [];

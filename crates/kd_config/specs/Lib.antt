@@ -9,3 +9,4 @@ pub mod Laws
 pub mod Networks
 pub mod Booted
 pub mod Term
+pub mod Classed

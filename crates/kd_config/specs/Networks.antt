@@ -1,8 +1,7 @@
 -- Shared networks: subnets on one link, whose clients may have an address of each of them (ISC Kea
 -- Administrator Reference Manual, section Shared Networks in DHCPv4).
-use Rattle.std.specs.Prelude.{ℕ, ◌+◌, ◌-◌, Bool, ◌&&◌, ◌==◌, if◌then◌else◌, List, [], ◌∷◌, map, max, Option, Some, None, slice_get}
+use Rattle.std.specs.Prelude.{ℕ, ◌+◌, ◌-◌, Bool, ◌&&◌, ◌==◌, if◌then◌else◌, List, [], ◌∷◌, ◌++◌, map, max, Option, Some, None, slice_get}
 use Rattle.std.specs.List.{find, flat_map, list_any, range_with_len}
-use Rattle.std.specs.Option.{option_or}
 use Rattle.kd_classes.specs.Boot.{no_boot}
 use Rattle.kd_config.specs.Address.{has_address}
 use Rattle.kd_config.specs.declared.pool.Pool.{Pool}
@@ -30,18 +29,30 @@ abbrev pub part_holding : List Subnet → Subnet → ℕ → Subnet
 part_holding subnets s address =
     if s.network == 0 then s else value_or (find (is_part s.network address) subnets) s
 
--- a pool of a subnet with a class is for that class, unless it has a class of its own
-abbrev pub pool_for : Option (List ℕ) → Pool → Pool
-pool_for class pool =
-    record { range = pool.range; class = option_or pool.class class; options = pool.options }
+-- a pool of a subnet with these classes is for its own classes and for these
+abbrev pub pool_for : List (List ℕ) → Pool → Pool
+pool_for classes pool =
+    record { range = pool.range; classes = pool.classes ++ classes; options = pool.options }
 
 -- the pools that a network has of a subnet
 abbrev pub pools_within : ℕ → Subnet → List Pool
-pools_within number s = if s.network == number then map (pool_for s.class) s.pools else []
+pools_within number s = if s.network == number then map (pool_for s.classes) s.pools else []
+
+-- a reservation in a subnet with these classes is for its own classes and for these
+abbrev pub reservation_for : List (List ℕ) → Reservation → Reservation
+reservation_for classes reservation =
+    record {
+      identity = reservation.identity;
+      address = reservation.address;
+      options = reservation.options;
+      boots = reservation.boots;
+      classes = reservation.classes ++ classes;
+    }
 
 -- the reservations that a network has of a subnet
 abbrev pub reservations_within : ℕ → Subnet → List Reservation
-reservations_within number s = if s.network == number then s.reservations else []
+reservations_within number s =
+    if s.network == number then map (reservation_for s.classes) s.reservations else []
 
 -- the prefix of a subnet, if there is one
 abbrev pub prefix_or_none : Option Subnet → Prefix
@@ -55,7 +66,7 @@ network_of subnets number =
     record {
       prefix = prefix_or_none (find (λ s. s.network == number) subnets);
       relays = [];
-      class = None;
+      classes = [];
       pools = flat_map (pools_within number) subnets;
       reservations = flat_map (reservations_within number) subnets;
       options = [];

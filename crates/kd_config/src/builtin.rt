@@ -63,7 +63,7 @@ fn builtin_subnet(alloc: Global) -> Result<Subnet, AllocError>
             length: 24,
         },
         relays: Entries::own(Vec::new(alloc)),
-        class: None,
+        classes: Entries::own(Vec::new(alloc)),
         pools: Entries::own(pools),
         reservations: Reservations::none(alloc),
         options: OptionList::own(Vec::new(alloc)),
@@ -83,7 +83,7 @@ fn only_pool(alloc: Global) -> Pool
             first: 0xc000_020a,
             last: 0xc000_020b,
         },
-        class: None,
+        classes: Entries::own(Vec::new(alloc)),
         options: OptionList::own(Vec::new(alloc)),
     }
 }

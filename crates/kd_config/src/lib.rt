@@ -26,7 +26,7 @@ mod term;
 mod times;
 
 pub use config::Config;
-pub use copies::{class_copied, options_copied};
+pub use copies::{classes_copied, classes_joined, classes_of, options_copied};
 pub use extensions::Extensions;
 pub use kd_wire::Entries;
 pub use pool::Pool;

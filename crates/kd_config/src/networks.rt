@@ -1,9 +1,8 @@
 ghost use Rattle.std.specs.Prelude.{◌≡◌, ◌+◌, ◌++◌, ◌==◌, IfOk, OnOk, map, option_copied};
 ghost use Rattle.std.specs.List.{find, flat_map, list_any};
-ghost use Rattle.std.specs.Option.{option_or};
-ghost use Rattle.kd_config.specs.Networks.{is_part, network_count, network_of, networks_in, pool_for, pools_within, prefix_or_none, reservations_within};
+ghost use Rattle.kd_config.specs.Networks.{is_part, network_count, network_of, networks_in, pool_for, pools_within, prefix_or_none, reservation_for, reservations_within};
 
-use crate::copies::{class_copied, options_copied, reservation_copied};
+use crate::copies::{classes_joined, options_copied, reservation_copied};
 use crate::pool::Pool;
 use crate::prefix::Prefix;
 use crate::reservation::Reservation;
@@ -43,7 +42,7 @@ fn joined(alloc: Global, subnets: &[Subnet], number: u32) -> Result<Subnet, Allo
     Ok(Subnet {
         prefix: first_prefix(subnets, number),
         relays: Entries::own(Vec::new(alloc)),
-        class: None,
+        classes: Entries::own(Vec::new(alloc)),
         pools: Entries::own(joined_pools(alloc, subnets, number)?),
         reservations: Reservations::own(alloc, joined_reservations(alloc, subnets, number)?)?,
         options: OptionList::own(Vec::new(alloc)),
@@ -95,45 +94,40 @@ fn push_pools_of(
     ensures { OnOk result (out.new.items ≡ out.old.items ++ pools_within number subnet.now) }
 {
     if subnet.network == number {
-        push_pools(alloc, out, subnet.pools.as_slice(), &subnet.class)?;
+        push_pools(
+            alloc,
+            out,
+            subnet.pools.as_slice(),
+            subnet.classes.as_slice(),
+        )?;
     }
     Ok(())
 }
 
-// Appends pools, each for its own class or else for this one.
+// Appends pools, each for its own classes and for these.
 fn push_pools(
     alloc: Global,
     out: &mut Vec<Pool>,
     pools: &[Pool],
-    class: &Option<Bytes>,
+    classes: &[Bytes],
 ) -> Result<(), AllocError>
-    ensures { OnOk result (out.new.items ≡ out.old.items ++ map (pool_for class.now) pools.now) }
+    ensures { OnOk result (out.new.items ≡ out.old.items ++ map (pool_for classes.now) pools.now) }
 {
     for pool in pools {
-        out.push(pool_copied(alloc, pool, class)?)?;
+        out.push(pool_copied(alloc, pool, classes)?)?;
     }
     Ok(())
 }
 
-// Copies a pool, for its own class or else for this one.
-fn pool_copied(alloc: Global, pool: &Pool, class: &Option<Bytes>) -> Result<Pool, AllocError>
-    ensures { IfOk result (λ copy. copy ≡ pool_for class.now pool.now) }
+// Copies a pool, for its own classes and for these.
+fn pool_copied(alloc: Global, pool: &Pool, classes: &[Bytes]) -> Result<Pool, AllocError>
+    ensures { IfOk result (λ copy. copy ≡ pool_for classes.now pool.now) }
 {
     Ok(Pool {
         range: pool.range,
-        class: class_copied(alloc, class_or(&pool.class, class))?,
+        classes: classes_joined(alloc, pool.classes.as_slice(), classes)?,
         options: options_copied(alloc, pool.options.as_slice())?,
     })
-}
-
-// Returns a class, or another one if there is none.
-fn class_or<'a>(class: &'a Option<Bytes>, other: &'a Option<Bytes>) -> &'a Option<Bytes>
-    ensures { result.now ≡ option_or class.now other.now }
-{
-    match class {
-        Some(_) => class,
-        None => other,
-    }
 }
 
 // Copies the reservations of the subnets of a network.
@@ -163,21 +157,28 @@ fn push_reservations_of(
         (out.new.items ≡ out.old.items ++ reservations_within number subnet.now) }
 {
     if subnet.network == number {
-        push_reservations(alloc, out, subnet.reservations.as_slice())?;
+        push_reservations(
+            alloc,
+            out,
+            subnet.reservations.as_slice(),
+            subnet.classes.as_slice(),
+        )?;
     }
     Ok(())
 }
 
-// Appends reservations.
+// Appends reservations, each for its own classes and for these.
 fn push_reservations(
     alloc: Global,
     out: &mut Vec<Reservation>,
     reservations: &[Reservation],
+    classes: &[Bytes],
 ) -> Result<(), AllocError>
-    ensures { OnOk result (out.new.items ≡ out.old.items ++ reservations.now) }
+    ensures { OnOk result (out.new.items
+        ≡ out.old.items ++ map (reservation_for classes.now) reservations.now) }
 {
     for reservation in reservations {
-        out.push(reservation_copied(alloc, reservation)?)?;
+        out.push(reservation_copied(alloc, reservation, classes)?)?;
     }
     Ok(())
 }

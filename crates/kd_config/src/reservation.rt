@@ -1,5 +1,5 @@
 use kd_classes::{BootList, OptionList};
-use kd_wire::Bytes;
+use kd_wire::{Bytes, Entries};
 
 /// By what the client of a reservation is known.
 #[derive(Clone, Copy)]
@@ -38,4 +38,6 @@ pub struct Reservation {
     pub options: OptionList,
     /// What the reservation gives to the boot fields of these replies, at most one value.
     pub boots: BootList,
+    /// The classes that the client must be in, each of them; there may be none.
+    pub classes: Entries<Bytes>,
 }

@@ -13,8 +13,8 @@ pub struct Subnet {
     /// The addresses of relays that stand for the subnet, in host order, at most 64. A message
     /// from one of them is of this subnet, whatever its prefix.
     pub relays: Entries<u32>,
-    /// The class that a client must be in, if there is one.
-    pub class: Option<Bytes>,
+    /// The classes that a client must be in, each of them; there may be none.
+    pub classes: Entries<Bytes>,
     /// Its pools, at most 64.
     pub pools: Entries<Pool>,
     /// Its reservations, at most 4,096.

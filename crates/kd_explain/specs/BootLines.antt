@@ -37,7 +37,7 @@ boots_of_class classes names i = class_boots (take 1 (drop i classes)) names
 -- what an origin gives at an address of a subnet, to a message with these class names; in a
 -- network, the subnet is the one in it that has the address
 abbrev pub boots_from : Configuration → Subnet → List (List ℕ) → Seen → ℕ → Origin → List Boot
-boots_from config s names m a origins.Reservation = reserved_boots config m s a
+boots_from config s names m a origins.Reservation = reserved_boots config names m s a
 boots_from config s names m a (origins.Class i) = boots_of_class config.classes names i
 boots_from config s names m a origins.Subnet = (part_holding config.subnets s a).boot ∷ []
 boots_from config s names m a other = []

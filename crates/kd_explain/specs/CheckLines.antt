@@ -137,7 +137,7 @@ abbrev pub place_words : Asking → Option Subnet → Option ℕ → List ℕ
 place_words q s a =
     pool_word (passes_in (pooled q.names) s a) (passes_in contained s a) ++ codes ", "
     ++ reserved_word
-    (passes_in (λ t b. same_address (address_reserved q.config q.message t) b) s a)
+    (passes_in (λ t b. same_address (address_reserved q.config q.names q.message t) b) s a)
     (passes_in reserved_for_circuit s a) (passes (reserved_anywhere q.config) a)
 
 -- whether it fits

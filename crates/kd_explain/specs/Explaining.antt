@@ -23,7 +23,7 @@ use Rattle.kd_explain.specs.declared.explaining.Explanation.{Explanation}
 -- the reservation for the client of a message in a subnet, if there is a subnet
 abbrev pub IsReservedIn : Configuration → Seen → Option Subnet → Option Reservation → Type 0
 IsReservedIn config m None found = found ≡ None
-IsReservedIn config m (Some s) found = found ≡ client_reservation config m s
+IsReservedIn config m (Some s) found = found ≡ client_reservation config names m s
 
 -- the first address of each rank in a subnet, if there is a subnet
 abbrev pub AreFoundIn : Asking → Option Subnet → Option Ranks → Type 0

@@ -24,7 +24,7 @@ options_of_class classes names i = class_options (take 1 (drop i classes)) names
 -- network, subnet, network and mask are those of the subnet in it that has the address
 abbrev pub options_from : Configuration → Subnet → List (List ℕ) → Seen → ℕ → Origin
     → List OptionData
-options_from config s names m a origins.Reservation = reserved_options config m s a
+options_from config s names m a origins.Reservation = reserved_options config names m s a
 options_from config s names m a origins.Pool = options_of_pool s.pools a
 options_from config s names m a origins.Subnet = (part_holding config.subnets s a).options
 options_from config s names m a origins.Network = (part_holding config.subnets s a).shared

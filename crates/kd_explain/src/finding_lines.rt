@@ -388,7 +388,7 @@ fn is_in_range(question: &Question<'_>, address: Option<u32>) -> bool
 fn reserved_phrase(question: &Question<'_>, address: Option<u32>) -> &'static str
     ensures { let q = asking question.now in
         result.now ≡ reserved_word
-        (passes_in (λ s a. same_address (address_reserved q.config q.message s) a)
+        (passes_in (λ s a. same_address (address_reserved q.config q.names q.message s) a)
         (serving_subnet q) address)
         (passes_in reserved_for_circuit (serving_subnet q) address)
         (passes (reserved_anywhere q.config) address) }
@@ -407,7 +407,7 @@ fn reserved_phrase(question: &Question<'_>, address: Option<u32>) -> &'static st
 // Reports whether an address is reserved for the client in the subnet that serves its message.
 fn is_its(question: &Question<'_>, address: Option<u32>) -> bool
     ensures { let q = asking question.now in
-        result ≡ passes_in (λ s a. same_address (address_reserved q.config q.message s) a)
+        result ≡ passes_in (λ s a. same_address (address_reserved q.config q.names q.message s) a)
         (serving_subnet q) address }
 {
     match (question.subnet, address) {
@@ -418,7 +418,7 @@ fn is_its(question: &Question<'_>, address: Option<u32>) -> bool
 
 fn is_reserved_for(question: &Question<'_>, subnet: &Subnet, address: u32) -> bool
     ensures { let q = asking question.now in
-        result ≡ same_address (address_reserved q.config q.message subnet.now) address }
+        result ≡ same_address (address_reserved q.config q.names q.message subnet.now) address }
 {
     match reservation_of(question.config, question.message, subnet) {
         Some(reservation) => is_of_address(reservation, address),

@@ -30,4 +30,4 @@ pool_of d = do
   _ ← must (has_pool_keys d)
   range ← get (codes "pool") d >>= pool_range
   options ← option_list_in (get (codes "option-data") d)
-  Some (record { range = range; class = None; options = options })
+  Some (record { range = range; classes = []; options = options })

@@ -11,6 +11,7 @@ use Rattle.kd_json.specs.Reservation.{reservation_of}
 use Rattle.kd_wire.specs.Steps.{◌>>=◌}
 use Rattle.kd_json.specs.Steps.{must}
 use Rattle.kd_json.specs.Values.{has_keys, number_if_given, text_if_given}
+use Rattle.kd_config.specs.Classed.{class_list}
 use Rattle.kd_config.specs.declared.prefix.Prefix.{Prefix}
 use Rattle.kd_config.specs.declared.subnet.Subnet.{Subnet}
 
@@ -33,7 +34,7 @@ subnet_with prefix class d = do
   Some (record {
     prefix = prefix;
     relays = [];
-    class = class;
+    classes = class_list class;
     pools = pools;
     reservations = reservations;
     options = options;

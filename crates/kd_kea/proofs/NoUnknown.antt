@@ -30,7 +30,7 @@ use Rattle.kd_kea.specs.HostName.{has_bare_names, host_name, host_options, may_b
 use Rattle.kd_kea.specs.Keys.{keys_are_read}
 use Rattle.kd_kea.specs.Lifetimes.{own_lifetime, has_class_lifetime, kea_keys, usual_keys}
 use Rattle.kd_kea.specs.Notes.{KeyNote, ObjectNotes, above_by, all_subnet_notes, around_members, around_of, beside_note, boot_in, boot_notes, class_lifetime_notes, keys_in_network, policy_notes, service_notes, term_notes, inside_notes, kea_inside, network_below, network_lists, network_notes, network_own, network_values, outside_in, prefix_given, class_notes, data_notes, definition_note, definition_notes, each_described, flag_note, have_refused, host_notes, host_values, is_not_failed, kind_notes, is_served_if_given, item_notes, items_of, kea_below, kea_beside, kea_notes, kea_value, usable_definitions, list_notes, listed_notes, lists_by, name_notes, note_on_name, note_unless, notes_at, notes_of_each, number_note, object_notes, option_notes, or_wrong, own_notes, pool_notes, relay_notes, right_definitions, root_notes, server_lists, server_flags, server_notes, server_times, subnet_lists, subnet_notes, subnet_own, subnet_values, text_note, all_times, value_notes, with_first, required_notes}
-use Rattle.kd_kea.specs.Network.{as_member, has_network_form, is_in_one_of, is_interface_of, kea_common, kea_member, kea_network, kea_subnets, may_be_of, one_class}
+use Rattle.kd_kea.specs.Network.{as_member, has_network_form, is_in_one_of, is_interface_of, kea_common, kea_member, kea_network, kea_subnets}
 use Rattle.kd_kea.specs.Options.{is_served_space, kea_entry, kea_options, server_address}
 use Rattle.kd_kea.specs.Parts.{parts_of_all}
 use Rattle.kd_kea.specs.Pool.{kea_pool, kea_range, may_require}
@@ -436,9 +436,7 @@ member_prefix above known common d member e =
     let hosts = came_from (list_of 4096 (kea_reservation known within.first.kinds within.first.bare) (get (codes "reservations") d)) _ subnet.first pools.gives in
     let beside = passed (stand_beside within.first.outside pools.first hosts.first) _ subnet.first hosts.gives in
     let options = came_from (kea_options false known (get (codes "option-data") d)) _ subnet.first beside.1 in
-    let own = came_from (one_class subnet.first.class common.class) _ member subnet.gives in
-    let may = passed (may_be_of own.first subnet.first.pools subnet.first.reservations) _ member own.gives in
-    prefix.is ∙ (ap (λ (s : Subnet). Some s.prefix) (some_is _ subnet.first options.gives) ∙ ap (λ (s : Subnet). Some s.prefix) (some_is _ member may.1))
+    prefix.is ∙ (ap (λ (s : Subnet). Some s.prefix) (some_is _ subnet.first options.gives) ∙ ap (λ (s : Subnet). Some s.prefix) (some_is _ member subnet.gives))
 
 member_prefixes : (above : Above) (known : List Definition) (common : Common) (items : Items) (members : List Subnet) → all_of (kea_member above known common) items ≡ Some members → all_of prefix_given items ≡ Some (map (λ (s : Subnet). s.prefix) members)
 member_prefixes above known common no_items members e = ap (λ (xs : List Subnet). Some (map (λ (s : Subnet). s.prefix) xs)) (some_is [] members e)

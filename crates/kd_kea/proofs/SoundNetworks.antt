@@ -13,7 +13,7 @@ use Rattle.kd_json.specs.Values.{text_if_given}
 use Rattle.kd_kea.proofs.SoundParts.{each_of_both}
 use Rattle.kd_kea.proofs.SoundSubnets.{IsAbove, relays_few, subnet_sound, within_sound}
 use Rattle.kd_kea.proofs.Sounds.{options_sound}
-use Rattle.kd_kea.specs.Network.{as_member, has_network_form, is_in_one_of, is_interface_of, kea_common, kea_member, kea_network, kea_subnets, may_be_of, numbered, one_class, relays_or, with_network}
+use Rattle.kd_kea.specs.Network.{as_member, has_network_form, is_in_one_of, is_interface_of, kea_common, kea_member, kea_network, kea_subnets, numbered, relays_or, with_network}
 use Rattle.kd_kea.specs.Options.{kea_options}
 use Rattle.kd_kea.specs.Relay.{relays_of}
 use Rattle.kd_kea.specs.Subnet.{above_within, kea_subnet}
@@ -41,12 +41,10 @@ relays_or_few : (own others : List ℕ) → length own ≤ 64 → length others 
 relays_or_few [] others few more = more
 relays_or_few (relay ∷ relays) others few more = few
 
-as_member_sound : (common : Common) (subnet member : Subnet) → IsCommon common → IsSubnet subnet → as_member common subnet ≡ Some member → IsSubnet member
+as_member_sound : (common : Common) (subnet : Subnet) → IsCommon common → IsSubnet subnet → IsSubnet (as_member common subnet)
 unfolding as_member
-as_member_sound common subnet member shared sound e =
-    let class = came_from (one_class subnet.class common.class) _ member e in
-    let may = passed (may_be_of class.first subnet.pools subnet.reservations) _ member class.gives in
-    subst IsSubnet (some_is _ member may.1) (record {
+as_member_sound common subnet shared sound =
+    record {
       prefix = sound.prefix;
       few_relays = relays_or_few subnet.relays common.relays sound.few_relays shared.relays;
       few_pools = sound.few_pools;
@@ -57,13 +55,13 @@ as_member_sound common subnet member shared sound e =
       shared = shared.options;
       boot = sound.boot;
       term = sound.term;
-    })
+    }
 
 member_sound : (above : Above) → IsAbove above → (known : List Definition) (common : Common) → IsCommon common → (d : Data) (member : Subnet) → kea_member above known common d ≡ Some member → IsSubnet member
 unfolding kea_member
 member_sound above given known common shared d member e =
     let subnet = came_from (kea_subnet above known d) _ member e in
-    as_member_sound common subnet.first member shared (subnet_sound above given known d subnet.first subnet.is) subnet.gives
+    subst IsSubnet (some_is (as_member common subnet.first) member subnet.gives) (as_member_sound common subnet.first shared (subnet_sound above given known d subnet.first subnet.is))
 
 network_sound : (above : Above) → IsAbove above → (known : List Definition) (d : Data) (members : List Subnet) → kea_network above known d ≡ Some members → AllByRecursion IsSubnet members
 unfolding kea_network

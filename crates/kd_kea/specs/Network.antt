@@ -1,13 +1,12 @@
 -- A shared network in a configuration of Kea's: subnets on one link. What is said of the network
 -- holds for each of its subnets, its members (Kea Administrator Reference Manual, section Shared
 -- Networks in DHCPv4).
-use Rattle.std.specs.Prelude.{ℕ, ◌+◌, Bool, true, false, ◌||◌, not, List, [], ◌∷◌, ◌++◌, length, map, nat_le, codes, Option, Some, None, is_some}
-use Rattle.std.specs.List.{list_all, list_any}
+use Rattle.std.specs.Prelude.{ℕ, ◌+◌, Bool, true, false, ◌||◌, List, [], ◌∷◌, ◌++◌, length, map, nat_le, codes, Option, Some, None, is_some}
+use Rattle.std.specs.List.{list_any}
 use Rattle.serde_json.specs.Data.{Data, string}
 use Rattle.serde_json.specs.Find.{as_str, get}
 use Rattle.kd_config.specs.Address.{has_address}
-use Rattle.kd_config.specs.declared.pool.Pool.{Pool}
-use Rattle.kd_config.specs.declared.reservation.Reservation.{Reservation}
+use Rattle.kd_config.specs.Classed.{class_list}
 use Rattle.kd_config.specs.declared.subnet.Subnet.{Subnet}
 use Rattle.kd_json.specs.Lists.{list_of}
 use Rattle.kd_json.specs.Steps.{must, only_if}
@@ -40,37 +39,28 @@ abbrev pub relays_or : List ℕ → List ℕ → List ℕ
 relays_or [] others = others
 relays_or (relay ∷ relays) others = relay ∷ relays
 
--- the class of a member: its own or that of its network. They may not both be given, since a pool
--- is for one class at most
-abbrev pub one_class : Option (List ℕ) → Option (List ℕ) → Option (Option (List ℕ))
-one_class None other = Some other
-one_class (Some class) None = Some (Some class)
-one_class (Some class) (Some other) = None
-
--- a pool is for each client of its subnet
-abbrev pub is_for_each : Pool → Bool
-is_for_each pool = not (is_some pool.class)
-
--- a member with these pools and reservations may be of a class: none of its pools has a class,
--- since a pool is for one class at most, and it has no reservations, which are for clients of every
--- class
-abbrev pub may_be_of : Option (List ℕ) → List Pool → List Reservation → Bool
-may_be_of None pools reservations = true
-may_be_of (Some class) pools [] = list_all is_for_each pools
-may_be_of (Some class) pools (reservation ∷ reservations) = false
-
--- a subnet as a member of a network that has this in common. It has no number yet
-unfoldable pub as_member : Common → Subnet → Option Subnet
-as_member common subnet = do
-  class ← one_class subnet.class common.class
-  _ ← must (may_be_of class subnet.pools subnet.reservations)
-  Some (record { prefix = subnet.prefix; relays = relays_or subnet.relays common.relays; class = class; pools = subnet.pools; reservations = subnet.reservations; options = subnet.options; network = 0; shared = common.options; boot = subnet.boot; term = subnet.term })
+-- a subnet as a member of a network that has this in common: it requires its own class and that of
+-- the network. It has no number yet
+unfoldable pub as_member : Common → Subnet → Subnet
+as_member common subnet =
+    record {
+      prefix = subnet.prefix;
+      relays = relays_or subnet.relays common.relays;
+      classes = subnet.classes ++ common.classes;
+      pools = subnet.pools;
+      reservations = subnet.reservations;
+      options = subnet.options;
+      network = 0;
+      shared = common.options;
+      boot = subnet.boot;
+      term = subnet.term;
+    }
 
 -- the member that a value describes
 unfoldable pub kea_member : Above → List Definition → Common → Data → Option Subnet
 kea_member above known common d = do
   subnet ← kea_subnet above known d
-  as_member common subnet
+  Some (as_member common subnet)
 
 -- a value has the keys of a network; its name is not used
 unfoldable pub has_network_form : Above → Data → Option (Unit {0})
@@ -85,7 +75,7 @@ kea_common known d = do
   relays ← relays_of (get (codes "relay") d)
   class ← text_if_given (get (codes "client-class") d)
   options ← kea_options false known (get (codes "option-data") d)
-  Some (record { relays = relays; class = unless_empty class; options = options })
+  Some (record { relays = relays; classes = class_list (unless_empty class); options = options })
 
 -- the members of the network that a value describes, below what holds for the whole server
 unfoldable pub kea_network : Above → List Definition → Data → Option (List Subnet)
@@ -103,7 +93,7 @@ with_network number subnet =
     record {
       prefix = subnet.prefix;
       relays = subnet.relays;
-      class = subnet.class;
+      classes = subnet.classes;
       pools = subnet.pools;
       reservations = subnet.reservations;
       options = subnet.options;

@@ -1,5 +1,5 @@
 -- The pools of a configuration that pools of Kea's describe: a pool of a configuration has at most
--- 65,536 addresses, so one of more becomes several, in order, each with its class and its options.
+-- 65,536 addresses, so one of more becomes several, in order, each with its classes and its options.
 use Rattle.std.specs.Prelude.{ℕ, ◌+◌, ◌-◌, ◌*◌, ◌/◌, nat_le, nat_lt, if◌then◌else◌, List, map, length, Option}
 use Rattle.std.specs.List.{flat_map, range_with_len}
 use Rattle.kd_config.specs.declared.pool.Pool.{Pool}
@@ -16,7 +16,7 @@ abbrev pub pool_part : Pool → ℕ → Pool
 pool_part pool i =
     record {
       range = first_part (pool.range.first + 65536 * i) pool.range.last;
-      class = pool.class;
+      classes = pool.classes;
       options = pool.options;
     }
 

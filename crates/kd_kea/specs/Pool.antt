@@ -2,6 +2,7 @@
 use Rattle.std.specs.Prelude.{◌-◌, ℕ, nat_lt, bytes_eq, Bool, true, false, not, ◌||◌, List, codes, Option, Some, None}
 use Rattle.serde_json.specs.Data.{Data}
 use Rattle.serde_json.specs.Find.{as_str, get}
+use Rattle.kd_config.specs.Classed.{class_list}
 use Rattle.kd_config.specs.declared.pool.Pool.{Pool}
 use Rattle.kd_config.specs.declared.range.Range.{Range}
 use Rattle.kd_json.specs.Pool.{pool_addresses}
@@ -38,4 +39,4 @@ kea_pool known d = do
   class ← text_if_given (get (codes "client-class") d)
   _ ← must (may_require (get (codes "client-class") d >>= as_str))
   options ← kea_options false known (get (codes "option-data") d)
-  Some (record { range = range; class = unless_empty class; options = options })
+  Some (record { range = range; classes = class_list (unless_empty class); options = options })

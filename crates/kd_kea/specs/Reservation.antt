@@ -1,6 +1,6 @@
 -- A reservation in a configuration of Kea's: a client, its address if it has one, and the options
 -- and boot fields of that client.
-use Rattle.std.specs.Prelude.{ℕ, Bool, codes, List, Option, Some, None, option_map}
+use Rattle.std.specs.Prelude.{ℕ, Bool, codes, List, [], Option, Some, None, option_map}
 use Rattle.serde_json.specs.Data.{Data}
 use Rattle.serde_json.specs.Find.{get}
 use Rattle.kd_config.specs.declared.reservation.Reservation.{Reservation}
@@ -31,4 +31,4 @@ kea_reservation known kinds bare d = do
   address ← address_if_given (get (codes "ip-address") d)
   options ← host_options known bare d
   boot ← own_boot d
-  Some (record { identity = client; address = address; options = options; boots = boot_listed boot })
+  Some (record { identity = client; address = address; options = options; boots = boot_listed boot; classes = [] })

@@ -6,6 +6,7 @@ use Rattle.serde_json.specs.Find.{get}
 use Rattle.kd_classes.specs.Boot.{boot_or}
 use Rattle.kd_config.specs.Address.{has_address}
 use Rattle.kd_config.specs.Apart.{has}
+use Rattle.kd_config.specs.Classed.{class_list}
 use Rattle.kd_config.specs.declared.pool.Pool.{Pool}
 use Rattle.kd_config.specs.declared.reservation.Reservation.{Reservation}
 use Rattle.kd_config.specs.declared.prefix.Prefix.{Prefix}
@@ -71,7 +72,7 @@ kea_subnet_with known within prefix class d = do
   reservations ← list_of 4096 (kea_reservation known within.kinds within.bare) (get (codes "reservations") d)
   _ ← must (stand_beside within.outside pools reservations)
   options ← kea_options false known (get (codes "option-data") d)
-  Some (record { prefix = prefix; relays = relays; class = class; pools = pools; reservations = reservations; options = options; network = 0; shared = []; boot = within.boot; term = term_unless_alike within })
+  Some (record { prefix = prefix; relays = relays; classes = class_list class; pools = pools; reservations = reservations; options = options; network = 0; shared = []; boot = within.boot; term = term_unless_alike within })
 
 -- a value has the keys of a subnet; its `id` is checked but not used
 unfoldable pub has_subnet_form : Above → Data → Option (Unit {0})

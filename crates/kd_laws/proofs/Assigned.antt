@@ -21,7 +21,7 @@ use Rattle.kd_lease.specs.Plan.{Content, Outcome}
 use Rattle.kd_lease.specs.Plan.Outcome.{planned, quiet}
 use Rattle.kd_lease.specs.Client.{requested_address}
 use Rattle.kd_lease.specs.Rules.{Does, IsReplyOf, IsSilent, Makes, client_has, declined_row, ending, kept_subnet, lasting_for, may_last, released_row, renewable, rule_of, serving_subnet}
-use Rattle.kd_lease.specs.SubnetOf.{class_admits}
+use Rattle.kd_lease.specs.SubnetOf.{classes_admit}
 use Rattle.kd_lease.specs.declared.plan.PlanKind.{PlanKind}
 use Rattle.kd_lease.specs.declared.plan.PlanKind.TheVariants as kinds
 use Rattle.kd_lease.specs.declared.rule.Ending.{Ending}
@@ -36,7 +36,7 @@ use Rattle.kd_laws.proofs.Hosts.{client_each}
 pools_32 : (names : List (List ℕ)) (pools : List Pool) (a : ℕ) → AllByRecursion ServesPool pools → list_any (λ pool. pool_gives names pool a) pools ≡ true → a < 2 ^ 32
 pools_32 names [] a each inside = absurd (false≢true inside)
 pools_32 names (pool ∷ pools) a each inside =
-    ⊎_elim (λ here. one (and_parts (class_admits pool.class names) (has pool.range a) here).1) (pools_32 names pools a each.1) (or_cases (pool_gives names pool a) (list_any (λ p. pool_gives names p a) pools) inside) where
+    ⊎_elim (λ here. one (and_parts (classes_admit pool.classes names) (has pool.range a) here).1) (pools_32 names pools a each.1) (or_cases (pool_gives names pool a) (list_any (λ p. pool_gives names p a) pools) inside) where
       one : has pool.range a ≡ true → a < 2 ^ 32
       one here =
           let below = leb-true a pool.range.last (and_parts (nat_le pool.range.first a) (nat_le a pool.range.last) here).1 in
@@ -78,8 +78,8 @@ fitting_32 q s a is fits =
     let client = client_each ServesClient q.message s is.reservations q.config in
     ⊎_elim
     (λ open_one. pools_32 q.names s.pools a is.pools (and_parts (pooled q.names s a) (not (reserved_anywhere q.config a)) open_one).0)
-    (λ mine. same_32 (client_reservation q.config q.message s) a client mine)
-    (or_cases (pooled q.names s a && not (reserved_anywhere q.config a)) (same_address (address_reserved q.config q.message s) a) fits)
+    (λ mine. same_32 (client_reservation q.config q.names q.message s) a client mine)
+    (or_cases (pooled q.names s a && not (reserved_anywhere q.config a)) (same_address (address_reserved q.config q.names q.message s) a) fits)
 
 -- so has an address that may be renewed
 lasting_32 : (q : Asking) (s : Subnet) (a : ℕ) → Serves s → lasting_for q s a ≡ true → a < 2 ^ 32
@@ -100,7 +100,7 @@ or_second false y is = is
 -- an address that has a rank fits
 ranked_fits : (q : Asking) (s : Subnet) (rank : Rank) (a : ℕ) → has_rank q s rank a ≡ true → fitting_for q s a ≡ true
 ranked_fits q s reserved_rank a h =
-    let own_one = same_address (address_reserved q.config q.message s) a in
+    let own_one = same_address (address_reserved q.config q.names q.message s) a in
     or_second (pooled q.names s a && not (reserved_anywhere q.config a)) own_one (and_parts own_one (free_for q a) h).0
 ranked_fits q s own a h = (and_parts (has_such (held_row q) (row_at q.rows a)) (fitting_for q s a) h).1
 ranked_fits q s past a h = (and_parts (has_such (past_row q) (row_at q.rows a)) (fitting_for q s a) h).1

@@ -100,7 +100,7 @@ unfolding boots_given
 given_sound config s names m address sound is =
     let part = part_holding config.subnets s address in
     let there = part_serves config.subnets (all_serve config.subnets sound.subnets.together sound.subnets.each) s address is in
-    let host = reservation_at config m s address in
+    let host = reservation_at config names m s address in
     let reserved = of_reservation host (counting_each ServesClient m s is.reservations config address) in
     let held = of_classes IsBoot config.classes names (classes_sound config.classes sound.classes.each) in
     each-append IsBoot (boots_reserved host ++ class_boots config.classes names) (part.boot ∷ [])
@@ -153,7 +153,7 @@ unfolding boots_given
 given_nothing config s names m address none is =
     let part = part_holding config.subnets s address in
     let there = at_part IsUnbooted unbooted_network config.subnets none.subnets s address is in
-    let host = reservation_at config m s address in
+    let host = reservation_at config names m s address in
     let reserved = none_reserved host (counting_each (λ reservation. reservation.boots ≡ []) m s is.reserved config address) in
     each-append IsNothing (boots_reserved host ++ class_boots config.classes names) (part.boot ∷ [])
     (each-append IsNothing (boots_reserved host) (class_boots config.classes names) reserved (of_classes IsNothing config.classes names none.classes))

@@ -103,8 +103,8 @@ no_options = record { few = omega arith; each = tt; own = tt }
 
 pools_of_part : (n : ℕ) (s : Subnet) → Serves s → AllByRecursion ServesPool (pools_within n s)
 pools_of_part n s is = by (s.network == n) where
-  by : (b : Bool) → AllByRecursion ServesPool (if b then map (pool_for s.class) s.pools else [])
-  by true = map-each ServesPool ServesPool (pool_for s.class) (λ pool it. record { options = it.options; last = it.last }) s.pools is.pools
+  by : (b : Bool) → AllByRecursion ServesPool (if b then map (pool_for s.classes) s.pools else [])
+  by true = map-each ServesPool ServesPool (pool_for s.classes) (λ pool it. record { options = it.options; last = it.last }) s.pools is.pools
   by false = tt
 
 clients_of_part : (n : ℕ) (s : Subnet) → Serves s → AllByRecursion ServesClient (reservations_within n s)

@@ -20,19 +20,19 @@ or_each P None y hx hy = hy
 or_each P (Some r) y hx hy = hx
 
 module _ (P : Reservation → Type 0) (m : Seen) (s : Subnet) (each : AllByRecursion P s.reservations) where
-  by_kind : (kind : IdentityKind) → IfSome (reservation_by m s kind) P
+  by_kind : (kind : IdentityKind) → IfSome (reservation_by names m s kind) P
   by_kind kind = find-each P (λ r. is_client_if kind (client_bytes m kind) r.identity) s.reservations each
 
-  ranked_each : IfSome (ranked_reservation m s) P
+  ranked_each : IfSome (ranked_reservation names m s) P
   ranked_each =
-      or_each P (reservation_by m s kinds.Hardware) (option_or (reservation_by m s kinds.Duid) (option_or (reservation_by m s kinds.Circuit) (reservation_by m s kinds.ClientId))) (by_kind kinds.Hardware)
-      (or_each P (reservation_by m s kinds.Duid) (option_or (reservation_by m s kinds.Circuit) (reservation_by m s kinds.ClientId)) (by_kind kinds.Duid)
-      (or_each P (reservation_by m s kinds.Circuit) (reservation_by m s kinds.ClientId) (by_kind kinds.Circuit) (by_kind kinds.ClientId)))
+      or_each P (reservation_by names m s kinds.Hardware) (option_or (reservation_by names m s kinds.Duid) (option_or (reservation_by names m s kinds.Circuit) (reservation_by names m s kinds.ClientId))) (by_kind kinds.Hardware)
+      (or_each P (reservation_by names m s kinds.Duid) (option_or (reservation_by names m s kinds.Circuit) (reservation_by names m s kinds.ClientId)) (by_kind kinds.Duid)
+      (or_each P (reservation_by names m s kinds.Circuit) (reservation_by names m s kinds.ClientId) (by_kind kinds.Circuit) (by_kind kinds.ClientId)))
 
   -- it holds of the reservation for the client
-  pub client_each : (config : Configuration) → IfSome (client_reservation config m s) P
+  pub client_each : (config : Configuration) → IfSome (client_reservation config names m s) P
   client_each config = by config.extensions.ranks_identities where
-    by : (b : Bool) → IfSome (if b then ranked_reservation m s else find (λ r. is_from m r.identity) s.reservations) P
+    by : (b : Bool) → IfSome (if b then ranked_reservation names m s else find (λ r. is_from m r.identity) s.reservations) P
     by true = ranked_each
     by false = find-each P (λ r. is_from m r.identity) s.reservations each
 
@@ -47,9 +47,9 @@ module _ (P : Reservation → Type 0) (m : Seen) (s : Subnet) (each : AllByRecur
       this false = tt
 
   -- so it holds of the one that counts for the reply with an address
-  pub counting_each : (config : Configuration) (a : ℕ) → IfSome (reservation_at config m s a) P
+  pub counting_each : (config : Configuration) (a : ℕ) → IfSome (reservation_at config names m s a) P
   counting_each config a =
-      or_each P (client_reservation config m s) (if config.extensions.keeps_leases && renews_alone m a then circuit_reservation s a else None) (client_each config)
+      or_each P (client_reservation config names m s) (if config.extensions.keeps_leases && renews_alone m a then circuit_reservation s a else None) (client_each config)
       (by (config.extensions.keeps_leases && renews_alone m a)) where
         by : (b : Bool) → IfSome (if b then circuit_reservation s a else None) P
         by true = circuit_each a

@@ -70,13 +70,13 @@ classes_free (class ∷ classes) names each =
 given_free : (config : Configuration) (s : Subnet) (names : List (List ℕ)) (m : Seen) (address : ℕ) → IsSound config → Serves s → AllByRecursion IsFree (given config s names m address)
 unfolding given
 given_free config s names m address sound is =
-    let own = reserved_options config m s address in
+    let own = reserved_options config names m s address in
     let pool = options_of_pool s.pools address in
     let part = part_holding config.subnets s address in
     let is_there = part_serves config.subnets (all_serve config.subnets sound.subnets.together sound.subnets.each) s address is in
     let classes = class_options config.classes names in
     let has_it : Pool → Bool = λ p. has p.range address in
-    let reserved = reservation_free (reservation_at config m s address) (counting_each ServesClient m s is.reservations config address) in
+    let reserved = reservation_free (reservation_at config names m s address) (counting_each ServesClient m s is.reservations config address) in
     let pooled = pool_free (find has_it s.pools) (find-each ServesPool has_it s.pools is.pools) in
     each-append IsFree (own ++ pool ++ part.options ++ part.shared ++ classes ++ config.options) (mask_option part.prefix ∷ [])
     (each-append IsFree (own ++ pool ++ part.options ++ part.shared ++ classes) config.options

@@ -32,12 +32,12 @@ more_classes classes names i class at =
 
 -- the options of a configuration, each list as it is found
 pub all_given : (config : Configuration) (subnet part : Subnet) (names : List (List ℕ)) (m : Seen) (address : ℕ) (host classes all : List OptionData) (mask : List ℕ)
-    → host ≡ reserved_options config m subnet address → part ≡ part_holding config.subnets subnet address → classes ≡ class_options config.classes names → all ≡ config.options → mask ≡ prefix_mask part.prefix
+    → host ≡ reserved_options config names m subnet address → part ≡ part_holding config.subnets subnet address → classes ≡ class_options config.classes names → all ≡ config.options → mask ≡ prefix_mask part.prefix
     → host ++ options_of_pool subnet.pools address ++ part.options ++ part.shared ++ classes ++ all ++ record { code = 1; value = mask; always = false } ∷ [] ≡ given config subnet names m address
 unfolding given
 all_given config subnet part names m address host classes all mask h p c a k =
     (λ i. h i ++ options_of_pool subnet.pools address ++ part.options ++ part.shared ++ c i ++ a i ++ record { code = 1; value = k i; always = false } ∷ [])
-    ∙ ap (λ (s : Subnet). reserved_options config m subnet address ++ options_of_pool subnet.pools address ++ s.options ++ s.shared ++ class_options config.classes names ++ config.options ++ mask_option s.prefix ∷ []) p
+    ∙ ap (λ (s : Subnet). reserved_options config names m subnet address ++ options_of_pool subnet.pools address ++ s.options ++ s.shared ++ class_options config.classes names ++ config.options ++ mask_option s.prefix ∷ []) p
 
 -- the options that a subnet gives, each list as it is found
 pub all_of_subnet : (subnet part : Subnet) (address : ℕ) (host pool own shared : List OptionData)

@@ -40,7 +40,7 @@ not_ended true l = λ i. false
 not_ended false l = absurd (false≢true l)
 
 pub no_rank : (q : Asking) (s : Subnet) (rank : Rank) (a : ℕ) (row : Row) → IsAnothers q a row → has_rank q s rank a ≡ false
-no_rank q s reserved a row h = and_no (same_address (address_reserved q.config q.message s) a) (free_for q a) (not_free q a row h)
+no_rank q s reserved a row h = and_no (same_address (address_reserved q.config q.names q.message s) a) (free_for q a) (not_free q a row h)
 no_rank q s own a row h =
     no_and (has_such (held_row q) (row_at q.rows a)) (fitting_for q s a)
     (ap (has_such (held_row q)) h.there ∙ not_held_by (live_row q.now row) (belongs_to q.client row) (holding_state row.state) h.other)

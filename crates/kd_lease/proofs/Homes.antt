@@ -17,7 +17,7 @@ use Rattle.kd_rows.specs.declared.row.Row.{Row}
 use Rattle.kd_lease.specs.Choice.{Asking, contained, fitting_for, reserved_anywhere, reserved_in}
 use Rattle.kd_lease.specs.Keeper.{keeper_in}
 use Rattle.kd_lease.specs.Keeping.{is_record_here, keeper, keeps_it, keeps_pooled}
-use Rattle.kd_lease.specs.Kept.{circuit_reservation, has_to_keep, kept_in, passes, renews_lease}
+use Rattle.kd_lease.specs.Kept.{has_to_keep, kept_in, passes, renews_lease, unseen_reservation}
 use Rattle.kd_lease.specs.Rules.{client_has, kept_subnet, known_in, lasting_for, may_last, passes_in, serving_subnet}
 use Rattle.kd_lease.specs.SubnetOf.{subnet_serving}
 use Rattle.kd_lease.proofs.Records.{known_there}
@@ -84,9 +84,9 @@ counted test (t ∷ subnets) s h = by (test t) h (counted test subnets s) where
   by false h rest = let here = rest h in omega (arith, here, right)
 
 -- what a network's pools contain
-mapped : (class : Option (List ℕ)) (pools : List Pool) (a : ℕ) → list_any (λ p. has p.range a) (map (pool_for class) pools) ≡ list_any (λ p. has p.range a) pools
-mapped class [] a = refl
-mapped class (pool ∷ pools) a = ap (λ b. has pool.range a || b) (mapped class pools a)
+mapped : (classes : List (List ℕ)) (pools : List Pool) (a : ℕ) → list_any (λ p. has p.range a) (map (pool_for classes) pools) ≡ list_any (λ p. has p.range a) pools
+mapped classes [] a = refl
+mapped classes (pool ∷ pools) a = ap (λ b. has pool.range a || b) (mapped classes pools a)
 
 within : (n a : ℕ) (subnets : List Subnet) → list_any (λ s. s.network == n && contained s a) subnets ≡ true → list_any (λ p. has p.range a) (flat_map (pools_within n) subnets) ≡ true
 within n a [] h = h
@@ -99,7 +99,7 @@ within n a (s ∷ subnets) h =
       own : (s.network == n && contained s a) ≡ true → list_any (λ p. has p.range a) (pools_within n s) ≡ true
       own here =
           let parts = and_parts (s.network == n) (contained s a) here in
-          ap (λ (b : Bool). list_any (λ p. has p.range a) (if b then map (pool_for s.class) s.pools else [])) parts.0 ∙ (mapped s.class s.pools a ∙ parts.1)
+          ap (λ (b : Bool). list_any (λ p. has p.range a) (if b then map (pool_for s.classes) s.pools else [])) parts.0 ∙ (mapped s.classes s.pools a ∙ parts.1)
 
 -- the home of a subnet has its addresses
 module _ (subnets : List Subnet) (test : Subnet → Bool) (s : Subnet) (a : ℕ) (there : find test subnets ≡ Some s) where
@@ -194,9 +194,9 @@ kept_lasts q a h = by (keeper q) refl h where
       let pooled : contained home a ≡ true = home_contains q.config.subnets (has_to_keep q.message.header.ciaddr) s a (found_keeper q s e) rest.0 in
       let kept : is_some (kept_subnet q) ≡ true = ap is_some (sym (kept_at_home q) ∙ ap (option_map (home_of q.config.subnets)) e) in
       let lasts : lasting_for q home a ≡ true =
-      or_right (fitting_for q home a) (is_some (kept_subnet q) && may_last q.config home a)
-      (and_from (is_some (kept_subnet q)) (may_last q.config home a) kept
-      (or_left (contained home a && not (reserved_anywhere q.config a)) (is_some (circuit_reservation home a))
+      or_right (fitting_for q home a) (is_some (kept_subnet q) && may_last q.config q.message home a)
+      (and_from (is_some (kept_subnet q)) (may_last q.config q.message home a) kept
+      (or_left (contained home a && not (reserved_anywhere q.config a)) (is_some (unseen_reservation q.message home a))
       (and_from (contained home a) (not (reserved_anywhere q.config a)) pooled rest.1))) in
       ap (λ (o : Option Subnet). passes_in (lasting_for q) o (Some a)) (serves_home q s e) ∙ lasts
 

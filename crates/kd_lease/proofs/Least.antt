@@ -35,16 +35,16 @@ split true false true = refl
 split true false false = refl
 split false c o = refl
 
-opens : (q : Asking) (s : Subnet) (new : Bool) (a : ℕ) → is_open q s new a ≡ (is_kept_open q (address_reserved q.config q.message s) new a || is_common_open q s new a)
-opens q s new a = split (untaken q new a) (common_in q.config q.names s a) (same_address (address_reserved q.config q.message s) a)
+opens : (q : Asking) (s : Subnet) (new : Bool) (a : ℕ) → is_open q s new a ≡ (is_kept_open q (address_reserved q.config q.names q.message s) new a || is_common_open q s new a)
+opens q s new a = split (untaken q new a) (common_in q.config q.names s a) (same_address (address_reserved q.config q.names q.message s) a)
 
 same_least : (p r : ℕ → Bool) (first last : ℕ) (x : Option ℕ) → ((a : ℕ) → r a ≡ p a) → IsLeast p first last x → IsLeast r first last x
 same_least p r first last None same h = λ a low high. same a ∙ h a low high
 same_least p r first last (Some found) same h = (h.0, h.1, same found ∙ h.2, λ a low less. same a ∙ h.3 a low less)
 
 -- the lesser of the two is the lowest that is open
-pub lesser_open : (q : Asking) (s : Subnet) (new : Bool) (first last : ℕ) (x y : Option ℕ) → IsLeast (is_kept_open q (address_reserved q.config q.message s) new) first last x → IsLeast (is_common_open q s new) first last y → IsLeastOpen q s new first last (earlier x y)
-lesser_open q s new first last x y hx hy = same_least (λ a. is_kept_open q (address_reserved q.config q.message s) new a || is_common_open q s new a) (is_open q s new) first last (earlier x y) (opens q s new) (lesser (is_kept_open q (address_reserved q.config q.message s) new) (is_common_open q s new) first last x y hx hy)
+pub lesser_open : (q : Asking) (s : Subnet) (new : Bool) (first last : ℕ) (x y : Option ℕ) → IsLeast (is_kept_open q (address_reserved q.config q.names q.message s) new) first last x → IsLeast (is_common_open q s new) first last y → IsLeastOpen q s new first last (earlier x y)
+lesser_open q s new first last x y hx hy = same_least (λ a. is_kept_open q (address_reserved q.config q.names q.message s) new a || is_common_open q s new a) (is_open q s new) first last (earlier x y) (opens q s new) (lesser (is_kept_open q (address_reserved q.config q.names q.message s) new) (is_common_open q s new) first last x y hx hy)
 
 -- an address that is not vacant is not open to all
 vacant : (q : Asking) (s : Subnet) (new : Bool) (a : ℕ) → is_vacant q new a ≡ false → is_common_open q s new a ≡ false

@@ -12,7 +12,7 @@ use Rattle.kd_lease.specs.Choice.{Asking, contained, fitting_for, reserved_anywh
 use Rattle.kd_lease.specs.Client.{selected_link}
 use Rattle.kd_lease.specs.Kept.{renews_lease, subnet_keeping}
 use Rattle.kd_lease.specs.Rules.{kept_subnet, lasting_for, may_last, serving_subnet}
-use Rattle.kd_lease.specs.SubnetOf.{address_or, class_admits, first_serving, has_relay, header_place, is_by_relay, link_of, message_place, served_by, subnet_serving}
+use Rattle.kd_lease.specs.SubnetOf.{address_or, classes_admit, first_serving, has_relay, header_place, is_by_relay, link_of, message_place, served_by, subnet_serving}
 
 -- no subnet has a relay
 none_has : (subnets : List Subnet) (a : ℕ) (names : List (List ℕ)) → AllByRecursion (λ s. s.relays ≡ []) subnets
@@ -28,7 +28,7 @@ off false u e = refl
 
 pub served_by_prefix : (config : Configuration) (names : List (List ℕ)) (m : Seen) → AllByRecursion (λ s. s.relays ≡ []) config.subnets
     → subnet_serving config names m
-    ≡ option_map (home_of config.subnets) (find (λ s. has_address s.prefix (message_place config m) && class_admits s.class names) config.subnets)
+    ≡ option_map (home_of config.subnets) (find (λ s. has_address s.prefix (message_place config m) && classes_admit s.classes names) config.subnets)
 unfolding subnet_serving
 served_by_prefix config names m none =
     let by_prefix : is_by_relay config names m ≡ false =
@@ -80,7 +80,7 @@ renewed_by_class q none =
     let kept : kept_subnet q ≡ None =
     ap (λ (b : Bool). if b && renews_lease q.rows q.message q.now q.client then subnet_keeping q.config.subnets q.message.header.ciaddr else None) none in (
       ap (λ (o : Option Subnet). option_or o (subnet_serving q.config q.names q.message)) kept,
-      λ s a. ap (λ (o : Option Subnet). fitting_for q s a || (is_some o && may_last q.config s a)) kept ∙ or_false (fitting_for q s a),
+      λ s a. ap (λ (o : Option Subnet). fitting_for q s a || (is_some o && may_last q.config q.message s a)) kept ∙ or_false (fitting_for q s a),
     ) where
       or_false : (b : Bool) → (b || false) ≡ b
       or_false true = refl

@@ -9,7 +9,7 @@ use Rattle.kd_config.specs.declared.subnet.Subnet.{Subnet}
 use Rattle.kd_lease.specs.Choice.{Asking, IsFirstOf, has_rank, pooled, is_before, is_earlier, pool_gives, pool_place}
 use Rattle.kd_lease.specs.Ranks.{IsRanked}
 use Rattle.kd_lease.specs.Seeking.{IsLeastGiven, is_open, pool_rank}
-use Rattle.kd_lease.specs.SubnetOf.{class_admits}
+use Rattle.kd_lease.specs.SubnetOf.{classes_admit}
 
 left : (t u : Bool) → (t && u) ≡ true → t ≡ true
 left true u h = refl
@@ -56,7 +56,7 @@ pool_any names (pool ∷ pools) (suc i) a d less h = by (pool_gives names pool a
 
 -- a pool that has an address for a client contains it
 inside : (names : List (List ℕ)) (pool : Pool) (a : ℕ) → pool_gives names pool a ≡ true → (pool.range.first ≤ a) × (a ≤ pool.range.last)
-inside names pool a h = within (right (class_admits pool.class names) (has pool.range a) h) where
+inside names pool a h = within (right (classes_admit pool.classes names) (has pool.range a) h) where
   within : has pool.range a ≡ true → (pool.range.first ≤ a) × (a ≤ pool.range.last)
   within is = (low, high) where
     low : pool.range.first ≤ a

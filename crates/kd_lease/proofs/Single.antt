@@ -69,8 +69,8 @@ one_same (Some x) a b h k = sym (eqb-true x a h) ∙ eqb-true x b k
 -- a rank has one first address
 one_first : (q : Asking) (s : Subnet) (r : Rank) (a b : ℕ) → IsFirstOf q s r a → IsFirstOf q s r b → a ≡ b
 one_first q s reserved a b f g =
-    one_same (address_reserved q.config q.message s) a b (and_parts (same_address (address_reserved q.config q.message s) a) (free_for q a) f.ranked).0
-    (and_parts (same_address (address_reserved q.config q.message s) b) (free_for q b) g.ranked).0
+    one_same (address_reserved q.config q.names q.message s) a b (and_parts (same_address (address_reserved q.config q.names q.message s) a) (free_for q a) f.ranked).0
+    (and_parts (same_address (address_reserved q.config q.names q.message s) b) (free_for q b) g.ranked).0
 one_first q s own a b f g = one_newer q.rows a b (g.first a f.ranked) (f.first b g.ranked)
 one_first q s past a b f g = one_newer q.rows a b (g.first a f.ranked) (f.first b g.ranked)
 one_first q s asked a b f g =

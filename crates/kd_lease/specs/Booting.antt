@@ -24,8 +24,8 @@ boots_reserved None = []
 boots_reserved (Some reservation) = reservation.boots
 
 -- what the reservation gives that counts for the reply to a message with an address
-abbrev pub reserved_boots : Configuration → Seen → Subnet → ℕ → List Boot
-reserved_boots config m s a = boots_reserved (reservation_at config m s a)
+abbrev pub reserved_boots : Configuration → List (List ℕ) → Seen → Subnet → ℕ → List Boot
+reserved_boots config names m s a = boots_reserved (reservation_at config names m s a)
 
 -- what the classes give whose names are held, in order
 abbrev pub class_boots : List ClassDef → List (List ℕ) → List Boot
@@ -37,7 +37,7 @@ class_boots classes names =
 -- is the one of the part of its shared network that has the address
 unfoldable pub boots_given : Configuration → Subnet → List (List ℕ) → Seen → ℕ → List Boot
 boots_given config subnet names m address =
-    reserved_boots config m subnet address ++ class_boots config.classes names
+    reserved_boots config names m subnet address ++ class_boots config.classes names
     ++ (part_holding config.subnets subnet address).boot ∷ []
 
 -- the fields of a reply with these values; a field without one has zeros

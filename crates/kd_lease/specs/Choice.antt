@@ -19,7 +19,7 @@ use Rattle.kd_config.specs.declared.reservation.IdentityKind.TheVariants as kind
 use Rattle.kd_config.specs.declared.reservation.Reservation.{Reservation}
 use Rattle.kd_config.specs.declared.subnet.Subnet.{Subnet}
 use Rattle.kd_lease.specs.Client.{client_bytes, requested_address}
-use Rattle.kd_lease.specs.SubnetOf.{class_admits}
+use Rattle.kd_lease.specs.SubnetOf.{classes_admit}
 use Rattle.kd_options.specs.Joined.{value_of}
 use Rattle.kd_options.specs.Message.{Seen, mac_of}
 use Rattle.kd_rows.specs.Table.{belongs_to, row_at}
@@ -48,30 +48,36 @@ is_from m (clients.Hardware bytes) = bytes_eq (mac_of m.header) bytes
 is_from m (clients.ClientId bytes) = same_value bytes (value_of 61 m.options)
 is_from m other = false
 
--- the first reservation of a subnet that is for the client of a message by this kind of identity
-abbrev pub reservation_by : Seen → Subnet → IdentityKind → Option Reservation
-reservation_by m s kind =
-    find (λ reservation. is_client_if kind (client_bytes m kind) reservation.identity) s.reservations
+-- a reservation counts for the client of a message, which is in the classes with these names: it is
+-- for the client by this kind of identity, and each class that it requires is held
+abbrev pub counts_by : List (List ℕ) → Seen → IdentityKind → Reservation → Bool
+counts_by names m kind reservation =
+    is_client_if kind (client_bytes m kind) reservation.identity
+    && classes_admit reservation.classes names
+
+-- the first reservation of a subnet that counts for the client by this kind of identity
+abbrev pub reservation_by : List (List ℕ) → Seen → Subnet → IdentityKind → Option Reservation
+reservation_by names m s kind = find (counts_by names m kind) s.reservations
 
 -- the reservation by the hardware address of the client, or else by its DUID, its circuit or its
 -- identifier, in this order
-abbrev pub ranked_reservation : Seen → Subnet → Option Reservation
-ranked_reservation m s =
-    option_or (reservation_by m s kinds.Hardware)
-    (option_or (reservation_by m s kinds.Duid)
-    (option_or (reservation_by m s kinds.Circuit) (reservation_by m s kinds.ClientId)))
+abbrev pub ranked_reservation : List (List ℕ) → Seen → Subnet → Option Reservation
+ranked_reservation names m s =
+    option_or (reservation_by names m s kinds.Hardware)
+    (option_or (reservation_by names m s kinds.Duid)
+    (option_or (reservation_by names m s kinds.Circuit) (reservation_by names m s kinds.ClientId)))
 
--- the reservation for a message: where kinds of identities have an order, the first by it; otherwise
--- the first of the subnet that is for its client
-abbrev pub client_reservation : Configuration → Seen → Subnet → Option Reservation
-client_reservation config m s =
-    if config.extensions.ranks_identities then ranked_reservation m s
+-- the reservation for a message whose classes have these names: where kinds of identities have an
+-- order, the first by it; otherwise the first of the subnet that is for its client
+abbrev pub client_reservation : Configuration → List (List ℕ) → Seen → Subnet → Option Reservation
+client_reservation config names m s =
+    if config.extensions.ranks_identities then ranked_reservation names m s
     else find (λ reservation. is_from m reservation.identity) s.reservations
 
 -- the address that is reserved for the client of a message
-abbrev pub address_reserved : Configuration → Seen → Subnet → Option ℕ
-address_reserved config m s =
-    option_and_then (λ reservation. reservation.address) (client_reservation config m s)
+abbrev pub address_reserved : Configuration → List (List ℕ) → Seen → Subnet → Option ℕ
+address_reserved config names m s =
+    option_and_then (λ reservation. reservation.address) (client_reservation config names m s)
 
 -- a subnet has a reservation of this address
 abbrev pub reserved_in : ℕ → Subnet → Bool
@@ -83,7 +89,7 @@ reserved_anywhere config a = list_any (reserved_in a) config.subnets
 
 -- a pool has an address for a client in the classes with these names
 abbrev pub pool_gives : List (List ℕ) → Pool → ℕ → Bool
-pool_gives names pool a = class_admits pool.class names && has pool.range a
+pool_gives names pool a = classes_admit pool.classes names && has pool.range a
 
 -- a pool of the subnet has this address for such a client
 abbrev pub pooled : List (List ℕ) → Subnet → ℕ → Bool
@@ -98,7 +104,7 @@ contained s a = list_any (λ pool. has pool.range a) s.pools
 abbrev pub fitting_for : Asking → Subnet → ℕ → Bool
 fitting_for q s a =
     (pooled q.names s a && not (reserved_anywhere q.config a))
-    || same_address (address_reserved q.config q.message s) a
+    || same_address (address_reserved q.config q.names q.message s) a
 
 -- there is a row, and it passes the test
 abbrev pub has_such : (Row → Bool) → Option Row → Bool
@@ -162,7 +168,7 @@ place expired = 6
 
 -- an address has a rank
 abbrev pub has_rank : Asking → Subnet → Rank → ℕ → Bool
-has_rank q s reserved a = same_address (address_reserved q.config q.message s) a && free_for q a
+has_rank q s reserved a = same_address (address_reserved q.config q.names q.message s) a && free_for q a
 has_rank q s own a = has_such (held_row q) (row_at q.rows a) && fitting_for q s a
 has_rank q s past a = has_such (past_row q) (row_at q.rows a) && fitting_for q s a
 has_rank q s asked a = same_address (requested_address q.message) a && usable q s a

@@ -26,8 +26,8 @@ options_reserved None = []
 options_reserved (Some reservation) = reservation.options
 
 -- the options of the reservation that counts for the reply to a message with an address
-abbrev pub reserved_options : Configuration → Seen → Subnet → ℕ → List OptionData
-reserved_options config m s a = options_reserved (reservation_at config m s a)
+abbrev pub reserved_options : Configuration → List (List ℕ) → Seen → Subnet → ℕ → List OptionData
+reserved_options config names m s a = options_reserved (reservation_at config names m s a)
 
 -- the options of a pool, if there is one
 abbrev pub options_in : Option Pool → List OptionData
@@ -57,7 +57,7 @@ mask_option prefix = record { code = 1; value = prefix_mask prefix; always = fal
 -- those of the part of its shared network that has the address
 unfoldable pub given : Configuration → Subnet → List (List ℕ) → Seen → ℕ → List OptionData
 given config subnet names m address =
-    reserved_options config m subnet address ++ options_of_pool subnet.pools address
+    reserved_options config names m subnet address ++ options_of_pool subnet.pools address
     ++ (part_holding config.subnets subnet address).options
     ++ (part_holding config.subnets subnet address).shared
     ++ class_options config.classes names ++ config.options

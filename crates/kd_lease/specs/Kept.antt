@@ -1,9 +1,10 @@
 -- The lease that a client keeps as it renews it, whatever its classes and its circuit (our own
 -- choice). A renewal is sent to the server alone (RFC 2131 section 4.4.5), so no relay adds to it what
 -- the client's classes and its reservation were chosen by (RFC 3046).
-use Rattle.std.specs.Prelude.{ℕ, Bool, true, false, ◌&&◌, ◌||◌, ◌==◌, List, Option, Some, None, is_none, option_map, if◌then◌else◌}
+use Rattle.std.specs.Prelude.{ℕ, Bool, true, false, not, ◌&&◌, ◌||◌, ◌==◌, List, [], ◌∷◌, Option, Some, None, is_none, option_map, if◌then◌else◌}
 use Rattle.std.specs.List.{find}
 use Rattle.std.specs.Option.{option_or}
+use Rattle.std.specs.Str.{bytes_eq}
 use Rattle.kd_config.specs.Address.{has_address}
 use Rattle.kd_config.specs.Configuration.{Configuration}
 use Rattle.kd_config.specs.Networks.{home_of}
@@ -13,14 +14,15 @@ use Rattle.kd_config.specs.declared.reservation.Identity.TheVariants as clients
 use Rattle.kd_config.specs.declared.reservation.Reservation.{Reservation}
 use Rattle.kd_config.specs.declared.subnet.Subnet.{Subnet}
 use Rattle.kd_options.specs.Kind.{type_number}
-use Rattle.kd_options.specs.Message.{Seen}
+use Rattle.kd_options.specs.Joined.{value_of}
+use Rattle.kd_options.specs.Message.{Seen, mac_of}
 use Rattle.kd_options.specs.declared.kind.MessageType.TheVariants as types
 use Rattle.kd_rows.specs.Table.{belongs_to, row_at}
 use Rattle.kd_rows.specs.declared.row.Row.{Row}
 use Rattle.kd_rows.specs.declared.row.State.{State}
 use Rattle.kd_rows.specs.declared.row.State.TheVariants as states
-use Rattle.kd_lease.specs.Choice.{client_reservation, contained, has_such, live_row, reserved_in}
-use Rattle.kd_lease.specs.Client.{kind_of, named_server}
+use Rattle.kd_lease.specs.Choice.{client_reservation, contained, has_such, live_row, reserved_in, same_value}
+use Rattle.kd_lease.specs.Client.{duid_in, kind_of, named_server}
 
 -- the state is that of a lease
 abbrev pub bound_state : State → Bool
@@ -65,6 +67,36 @@ if_for_circuit (Some reservation) =
 abbrev pub circuit_reservation : Subnet → ℕ → Option Reservation
 circuit_reservation s a = if_for_circuit (find (has_reserved a) s.reservations)
 
+-- a reservation is for the client of a message by what the client itself says: its hardware address,
+-- its identifier, or the DUID in it
+abbrev pub is_own : Seen → Identity → Bool
+is_own m (clients.Hardware bytes) = bytes_eq (mac_of m.header) bytes
+is_own m (clients.Duid bytes) = same_value bytes (duid_in (value_of 61 m.options))
+is_own m (clients.Circuit bytes) = false
+is_own m (clients.ClientId bytes) = same_value bytes (value_of 61 m.options)
+
+-- there are none of them
+abbrev pub are_none : List (List ℕ) → Bool
+are_none [] = true
+are_none (class ∷ classes) = false
+
+-- a reservation may be for the client of a message although no relay says what shows it: it is for a
+-- circuit, or it is for the client and requires classes
+abbrev pub may_be_unseen : Seen → Reservation → Bool
+may_be_unseen m reservation =
+    is_behind_circuit reservation.identity
+    || (is_own m reservation.identity && not (are_none reservation.classes))
+
+-- a reservation, if there is one and it is of that kind
+abbrev pub if_unseen : Seen → Option Reservation → Option Reservation
+if_unseen m None = None
+if_unseen m (Some reservation) = if may_be_unseen m reservation then Some reservation else None
+
+-- the reservation of an address in a subnet, if it may be for the client of a message although no
+-- relay says what shows it
+abbrev pub unseen_reservation : Seen → Subnet → ℕ → Option Reservation
+unseen_reservation m s a = if_unseen m (find (has_reserved a) s.reservations)
+
 -- a message renews this address without a relay: it is a REQUEST that names no server and came
 -- through no relay, and its client has the address
 abbrev pub renews_alone : Seen → ℕ → Bool
@@ -73,11 +105,11 @@ renews_alone m a =
     && (is_none (named_server m) && (m.header.giaddr == 0 && m.header.ciaddr == a))
 
 -- the reservation that counts for the reply to a message with an address: that for its client, or
--- else, for a renewal without a relay where leases are kept, that of the address for a circuit
-abbrev pub reservation_at : Configuration → Seen → Subnet → ℕ → Option Reservation
-reservation_at config m s a =
-    option_or (client_reservation config m s)
-    (if config.extensions.keeps_leases && renews_alone m a then circuit_reservation s a else None)
+-- else, for a renewal without a relay where leases are kept, that of the address which may be its own
+abbrev pub reservation_at : Configuration → List (List ℕ) → Seen → Subnet → ℕ → Option Reservation
+reservation_at config names m s a =
+    option_or (client_reservation config names m s)
+    (if config.extensions.keeps_leases && renews_alone m a then unseen_reservation m s a else None)
 
 -- a subnet has an address to keep: its prefix does, and a pool contains it, or it is reserved
 abbrev pub has_to_keep : ℕ → Subnet → Bool

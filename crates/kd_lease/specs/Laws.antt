@@ -18,7 +18,7 @@ use Rattle.kd_lease.specs.Kept.{reservation_at}
 use Rattle.kd_lease.specs.Plan.{Content, Outcome}
 use Rattle.kd_lease.specs.Plan.Outcome.{planned}
 use Rattle.kd_lease.specs.Rules.{Does, IsAbout, Makes, Sets, client_has, ending, held_at, holds_at, known_in, lasting_for, renewable, rule_of, serving_subnet}
-use Rattle.kd_lease.specs.SubnetOf.{class_admits, first_serving, header_place, link_of, message_place, subnet_serving}
+use Rattle.kd_lease.specs.SubnetOf.{classes_admit, first_serving, header_place, link_of, message_place, subnet_serving}
 use Rattle.kd_lease.specs.declared.plan.PlanKind.TheVariants as kinds
 use Rattle.kd_lease.specs.declared.rule.Check.TheVariants as checks
 use Rattle.kd_lease.specs.declared.rule.Ending.{Ending}
@@ -116,7 +116,7 @@ ServesByPrefix =
     → AllByRecursion (λ s. s.relays ≡ []) config.subnets
     → subnet_serving config names m
     ≡ option_map (home_of config.subnets)
-    (find (λ s. has_address s.prefix (message_place config m) && class_admits s.class names)
+    (find (λ s. has_address s.prefix (message_place config m) && classes_admit s.classes names)
     config.subnets)
 
 -- where no subnet is in a shared network, the first subnet that serves a message serves it alone
@@ -167,9 +167,9 @@ KnownByMessage =
 -- message is the first of the subnet for its client, by the hardware address or by option 61
 abbrev pub ReservedByList : Type 0
 ReservedByList =
-    (config : Configuration) (m : Seen) (s : Subnet) (a : ℕ)
+    (config : Configuration) (names : List (List ℕ)) (m : Seen) (s : Subnet) (a : ℕ)
     → config.extensions.ranks_identities ≡ false → config.extensions.keeps_leases ≡ false
-    → reservation_at config m s a
+    → reservation_at config names m s a
     ≡ find (λ reservation. is_from m reservation.identity) s.reservations
 
 -- a subnet in no network has the addresses of its prefix, and its own options and mask are given

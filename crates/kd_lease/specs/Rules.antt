@@ -22,7 +22,7 @@ use Rattle.kd_rows.specs.declared.row.State.{State}
 use Rattle.kd_rows.specs.declared.row.State.TheVariants as states
 use Rattle.kd_lease.specs.Choice.{Asking, Choice, NoChoice, contained, fitting_for, free_for, has_such, held_row, live_row, reserved_anywhere, set_later}
 use Rattle.kd_lease.specs.Client.{kind_of, named_server, requested_address}
-use Rattle.kd_lease.specs.Kept.{ciaddr_in, is_leased_in, kept_in, passes, circuit_reservation}
+use Rattle.kd_lease.specs.Kept.{ciaddr_in, is_leased_in, kept_in, passes, unseen_reservation}
 use Rattle.kd_lease.specs.Plan.{Outcome}
 use Rattle.kd_lease.specs.Plan.Outcome.{planned, quiet}
 use Rattle.kd_lease.specs.SubnetOf.{subnet_serving}
@@ -143,16 +143,16 @@ renewed_address m = if m.header.ciaddr == 0 then requested_address m else Some m
 
 -- ---- what may last
 
--- a lease of an address that its client keeps may last: a pool contains the address, for whichever
--- class, and it is not reserved; or it is reserved for a circuit
-abbrev pub may_last : Configuration → Subnet → ℕ → Bool
-may_last config s a =
-    (contained s a && not (reserved_anywhere config a)) || is_some (circuit_reservation s a)
+-- a lease of an address that the client of a message keeps may last: a pool contains the address, for
+-- whichever class, and it is not reserved; or its reservation may be for the client
+abbrev pub may_last : Configuration → Seen → Subnet → ℕ → Bool
+may_last config m s a =
+    (contained s a && not (reserved_anywhere config a)) || is_some (unseen_reservation m s a)
 
 -- an address may be renewed in a subnet: it fits, or the client keeps its lease and that may last
 abbrev pub lasting_for : Asking → Subnet → ℕ → Bool
 lasting_for q s a =
-    fitting_for q s a || (is_some (kept_subnet q) && may_last q.config s a)
+    fitting_for q s a || (is_some (kept_subnet q) && may_last q.config q.message s a)
 
 -- the client may renew its lease of an address: the row is the client's, and the address may be
 -- renewed

@@ -2,7 +2,7 @@
 -- Manual, sections How the DHCPv4 Server Selects a Subnet for the Client and Using a Specific Relay
 -- Agent for a Subnet).
 use Rattle.std.specs.Prelude.{ℕ, Bool, true, not, ◌&&◌, ◌==◌, is_none, List, Option, Some, None, option_map, if◌then◌else◌}
-use Rattle.std.specs.List.{find, list_any}
+use Rattle.std.specs.List.{find, list_all, list_any}
 use Rattle.kd_config.specs.Address.{has_address}
 use Rattle.kd_config.specs.Configuration.{Configuration}
 use Rattle.kd_config.specs.Networks.{home_of}
@@ -32,10 +32,9 @@ address_or (Some a) other = a
 abbrev pub message_place : Configuration → Seen → ℕ
 message_place config m = address_or (link_of config m) (header_place config.server m.header)
 
--- the class that a subnet or a pool requires is held, or it requires none
-abbrev pub class_admits : Option (List ℕ) → List (List ℕ) → Bool
-class_admits None names = true
-class_admits (Some class) names = is_held class names
+-- each class that a subnet or a pool requires is held
+abbrev pub classes_admit : List (List ℕ) → List (List ℕ) → Bool
+classes_admit classes names = list_all (λ class. is_held class names) classes
 
 -- a subnet names this address as that of a relay of its own
 abbrev pub has_relay : ℕ → Subnet → Bool
@@ -49,7 +48,7 @@ has_place by_relay place subnet =
 -- a subnet serves this place and a client in the classes with these names
 abbrev pub served_by : Bool → ℕ → List (List ℕ) → Subnet → Bool
 served_by by_relay place names subnet =
-    has_place by_relay place subnet && class_admits subnet.class names
+    has_place by_relay place subnet && classes_admit subnet.classes names
 
 -- a message, whose classes have these names, comes from a relay that a subnet names as its own, and
 -- the relay selects no link

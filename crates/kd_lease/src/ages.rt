@@ -72,7 +72,7 @@ fn newest_given(
     ensures { IsNewest (asking question.now).rows
         (given_sought (asking question.now) sought.now names.now pool.now) result }
 {
-    if admits(&pool.class, names) {
+    if admits(pool.classes.as_slice(), names) {
         newest_within(question, sought, pool.range.first, pool.range.last)
     } else {
         None

@@ -78,7 +78,7 @@ pub fn boot_given(
     ensures { result
         ≡ first_boot (boots_given config.now subnet.now names.now message.now address) }
 {
-    boot_of_host(reservation_for(config, message, subnet, address))
+    boot_of_host(reservation_for(config, names, message, subnet, address))
         .or(class_boot(config.classes(), names))
         .or(config.boot_at(subnet, address))
 }

@@ -15,7 +15,7 @@ pub(crate) struct Choosing<'a> {
     pub(crate) subnet: &'a Subnet,
     // The address that is reserved in it for the client.
     pub(crate) own: Option<u32>,
-    ghost reserved: { own ≡ address_reserved question.now.config.now question.now.message.now subnet.now },
+    ghost reserved: { own ≡ address_reserved question.now.config.now question.now.names.now question.now.message.now subnet.now },
 }
 
 impl<'a> Choosing<'a> {
@@ -27,7 +27,7 @@ impl<'a> Choosing<'a> {
         Choosing {
             question,
             subnet,
-            own: reserved_address(question.config, question.message, subnet),
+            own: reserved_address(question.config, question.names, question.message, subnet),
         }
     }
 }

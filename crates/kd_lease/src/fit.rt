@@ -8,7 +8,7 @@ ghost use Rattle.kd_lease.specs.Seeking.{common_in, fitting_with};
 
 use crate::candidates::Choosing;
 use crate::question::Question;
-use crate::reservation::{is_reserved, of_circuit, reserved_address};
+use crate::reservation::{is_reserved, reserved_address, unseen_of};
 use crate::subnet::admits;
 use kd_config::{Config, Pool, Subnet};
 use kd_machine::Held;
@@ -23,7 +23,7 @@ pub fn fits(question: &Question<'_>, subnet: &Subnet, address: u32) -> bool
 {
     is_common(question, subnet, address)
         || is_address(
-            reserved_address(question.config, question.message, subnet),
+            reserved_address(question.config, question.names, question.message, subnet),
             address,
         )
 }
@@ -34,16 +34,17 @@ pub(crate) fn lasts(question: &Question<'_>, subnet: &Subnet, address: u32) -> b
     ensures { result ≡ lasting_for (asking question.now) subnet.now address }
 {
     fits(question, subnet, address)
-        || (question.kept.is_some() && is_to_last(question.config, subnet, address))
+        || (question.kept.is_some() && is_to_last(question, subnet, address))
 }
 
 // Reports whether a lease of an address that its client keeps may last: a pool contains the address,
-// for whichever class, and it is not reserved; or it is reserved for a circuit.
-fn is_to_last(config: &Config, subnet: &Subnet, address: u32) -> bool
-    ensures { result ≡ may_last config.now subnet.now address }
+// for whichever class, and it is not reserved; or its reservation may be the client's.
+fn is_to_last(question: &Question<'_>, subnet: &Subnet, address: u32) -> bool
+    ensures { result
+        ≡ may_last question.now.config.now question.now.message.now subnet.now address }
 {
-    (contains(subnet, address) && !is_reserved(config, address))
-        || of_circuit(subnet, address).is_some()
+    (contains(subnet, address) && !is_reserved(question.config, address))
+        || unseen_of(question.message, subnet, address).is_some()
 }
 
 // Reports whether an address fits, by the address that is reserved for the client.
@@ -77,7 +78,7 @@ pub fn in_pools(names: &Held, subnet: &Subnet, address: u32) -> bool
 fn gives_address(names: &Held, pool: &Pool, address: u32) -> bool
     ensures { result ≡ pool_gives names.now pool.now address }
 {
-    admits(&pool.class, names) && pool.range.contains(address)
+    admits(pool.classes.as_slice(), names) && pool.range.contains(address)
 }
 
 /// Reports whether a pool of the subnet contains an address, in host order, whoever may have it.

@@ -35,7 +35,7 @@ pub(crate) fn put_given(
 {
     let part = config.member_with(subnet, address);
     let mask = mask_of(part.prefix);
-    let host = reservation_options(config, message, subnet, address);
+    let host = reservation_options(config, names, message, subnet, address);
     let mut values = subnet_values(alloc, host, subnet, part, address)?;
     put_class_options(&mut values, config.classes(), names)?;
     values.put_all(config.options())?;

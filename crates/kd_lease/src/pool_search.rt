@@ -31,7 +31,7 @@ fn least_given(choosing: &Choosing<'_>, new: bool, pool: &Pool) -> Option<u32>
     ensures { IsLeastGiven (asking choosing.now.question.now) choosing.now.subnet.now new pool.now
         result }
 {
-    if admits(&pool.class, choosing.question.names) {
+    if admits(pool.classes.as_slice(), choosing.question.names) {
         least_open(choosing, new, pool.range)
     } else {
         None

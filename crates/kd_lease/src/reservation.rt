@@ -1,44 +1,54 @@
 ghost use Rattle.std.specs.Prelude.{◌≡◌, ◌&&◌, None, Some, if◌then◌else◌};
 ghost use Rattle.std.specs.List.{find, list_any};
 ghost use Rattle.std.specs.Option.{option_copied};
-ghost use Rattle.kd_lease.specs.Choice.{reserved_anywhere, reserved_in, client_reservation, address_reserved, is_from, ranked_reservation, reservation_by};
+ghost use Rattle.kd_config.specs.Reservation.{is_client, is_client_if};
+ghost use Rattle.kd_lease.specs.Choice.{reserved_anywhere, reserved_in, client_reservation, address_reserved, is_from, ranked_reservation, reservation_by, same_value};
 ghost use Rattle.kd_lease.specs.Given.{reserved_options};
-ghost use Rattle.kd_lease.specs.Kept.{circuit_reservation, if_for_circuit, renews_alone, reservation_at};
+ghost use Rattle.kd_lease.specs.Kept.{are_none, if_unseen, is_behind_circuit, is_own, may_be_unseen, renews_alone, reservation_at, unseen_reservation};
 ghost use Rattle.kd_lease.specs.Seeking.{reserves};
+ghost use Rattle.kd_lease.specs.SubnetOf.{classes_admit};
 
 use crate::client::identity_bytes;
 use crate::keeping::is_renewed_alone;
+use crate::subnet::admits;
 use kd_classes::OptionData;
 use kd_config::{Config, Identity, IdentityKind, Reservation, Subnet};
+use kd_machine::Held;
 use kd_options::Message;
 use kd_options::codes::OPTION_CLIENT_IDENTIFIER;
+use kd_wire::Bytes;
 
-// Returns the address that is reserved in a subnet for the client of a message.
+// Returns the address that is reserved in a subnet for the client of a message, which is in the
+// classes with these names.
 pub(crate) fn reserved_address(
     config: &Config,
+    names: &Held,
     message: &Message<'_>,
     subnet: &Subnet,
 ) -> Option<u32>
-    ensures { result ≡ address_reserved config.now message.now subnet.now }
+    ensures { result ≡ address_reserved config.now names.now message.now subnet.now }
 {
-    match reservation_of(config, message, subnet) {
+    match reservation_of(config, names, message, subnet) {
         Some(reservation) => reservation.address,
         None => None,
     }
 }
 
-/// Returns the reservation of a subnet for the client of a message: where kinds of identities have an
-/// order, that by its hardware address, or else its DUID, its circuit or its identifier; otherwise
-/// the first by its hardware address or its option 61.
+/// Returns the reservation of a subnet for the client of a message, which is in the classes with
+/// these names: where kinds of identities have an order, that by its hardware address, or else its
+/// DUID, its circuit or its identifier, of those whose classes are held; otherwise the first by its
+/// hardware address or its option 61.
 pub fn reservation_of<'a>(
     config: &Config,
+    names: &Held,
     message: &Message<'_>,
     subnet: &'a Subnet,
 ) -> Option<&'a Reservation>
-    ensures { option_copied result ≡ client_reservation config.now message.now subnet.now }
+    ensures { option_copied result
+        ≡ client_reservation config.now names.now message.now subnet.now }
 {
     if config.extensions().ranks_identities {
-        ranked(message, subnet)
+        ranked(names, message, subnet)
     } else {
         first_listed(message, subnet)
     }
@@ -55,54 +65,124 @@ fn first_listed<'a>(message: &Message<'_>, subnet: &'a Subnet) -> Option<&'a Res
         .of_client(message.mac(), message.option(OPTION_CLIENT_IDENTIFIER))
 }
 
-// Returns the reservation for the client of a message by the first kind of identity that has one.
-fn ranked<'a>(message: &Message<'_>, subnet: &'a Subnet) -> Option<&'a Reservation>
-    ensures { option_copied result ≡ ranked_reservation message.now subnet.now }
+// Returns the reservation for the client of a message by the first kind of identity that has one whose
+// classes are held.
+fn ranked<'a>(
+    names: &Held,
+    message: &Message<'_>,
+    subnet: &'a Subnet,
+) -> Option<&'a Reservation>
+    ensures { option_copied result ≡ ranked_reservation names.now message.now subnet.now }
 {
-    if let Some(found) = by_kind(message, subnet, IdentityKind::Hardware) {
+    if let Some(found) = by_kind(names, message, subnet, IdentityKind::Hardware) {
         return Some(found);
     }
-    if let Some(found) = by_kind(message, subnet, IdentityKind::Duid) {
+    if let Some(found) = by_kind(names, message, subnet, IdentityKind::Duid) {
         return Some(found);
     }
-    if let Some(found) = by_kind(message, subnet, IdentityKind::Circuit) {
+    if let Some(found) = by_kind(names, message, subnet, IdentityKind::Circuit) {
         return Some(found);
     }
-    by_kind(message, subnet, IdentityKind::ClientId)
+    by_kind(names, message, subnet, IdentityKind::ClientId)
 }
 
-// Returns the first reservation for the client of a message by a kind of identity.
+// Returns the first reservation for the client of a message by a kind of identity whose classes are
+// held. Most often it is the first for the client, which takes no search.
+#[tactic(auto, using(crate::proofs::Reserved::none_counts, crate::proofs::Reserved::first_counts))]
 fn by_kind<'a>(
+    names: &Held,
     message: &Message<'_>,
     subnet: &'a Subnet,
     kind: IdentityKind,
 ) -> Option<&'a Reservation>
-    ensures { option_copied result ≡ reservation_by message.now subnet.now kind }
+    ensures { option_copied result ≡ reservation_by names.now message.now subnet.now kind }
 {
-    subnet
-        .reservations
-        .of_kind(kind, identity_bytes(message, kind))
+    let bytes = identity_bytes(message, kind);
+    let first = subnet.reservations.of_kind(kind, bytes)?;
+    if admits(first.classes.as_slice(), names) {
+        Some(first)
+    } else {
+        admitted(names, kind, bytes, subnet.reservations.as_slice())
+    }
+}
+
+// Returns the first of these reservations for the client with bytes by a kind of identity, if there are
+// bytes, whose classes are held.
+fn admitted<'a>(
+    names: &Held,
+    kind: IdentityKind,
+    bytes: Option<&[u8]>,
+    reservations: &'a [Reservation],
+) -> Option<&'a Reservation>
+    ensures { option_copied result
+        ≡ find (λ reservation. is_client_if kind (option_copied bytes.entry) reservation.identity
+        && classes_admit reservation.classes names.now) reservations.now }
+{
+    reservations
+        .iter()
+        .find(|reservation| counts(names, kind, bytes, reservation))
+}
+
+// Reports whether a reservation is for the client with bytes by a kind of identity, if there are bytes,
+// and its classes are held.
+fn counts(
+    names: &Held,
+    kind: IdentityKind,
+    bytes: Option<&[u8]>,
+    reservation: &Reservation,
+) -> bool
+    ensures { result
+        ≡ (is_client_if kind (option_copied bytes.entry) reservation.now.identity
+        && classes_admit reservation.now.classes names.now) }
+{
+    is_known_by(kind, bytes, &reservation.identity)
+        && admits(reservation.classes.as_slice(), names)
+}
+
+// Reports whether the client has bytes by a kind of identity, if there are bytes.
+fn is_known_by(kind: IdentityKind, bytes: Option<&[u8]>, identity: &Identity) -> bool
+    ensures { result ≡ is_client_if kind (option_copied bytes.entry) identity.now }
+{
+    match bytes {
+        Some(bytes) => has_bytes(kind, bytes, identity),
+        None => false,
+    }
+}
+
+// Reports whether the client has these bytes by a kind of identity.
+fn has_bytes(kind: IdentityKind, bytes: &[u8], identity: &Identity) -> bool
+    ensures { result ≡ is_client kind bytes.now identity.now }
+{
+    match (kind, identity) {
+        (IdentityKind::Hardware, Identity::Hardware(own)) => bytes == own.as_slice(),
+        (IdentityKind::Duid, Identity::Duid(own)) => bytes == own.as_slice(),
+        (IdentityKind::Circuit, Identity::Circuit(own)) => bytes == own.as_slice(),
+        (IdentityKind::ClientId, Identity::ClientId(own)) => bytes == own.as_slice(),
+        _ => false,
+    }
 }
 
 /// Returns the reservation that counts for the reply to a message with an address, in host order: that
-/// for its client, or else, for a renewal without a relay where clients keep their leases, that of the
-/// address for a circuit, which no relay names then.
+/// of its client, or else, where leases are kept and the message renews the address without a relay,
+/// that of the address, if it may be the client's.
 pub fn reservation_for<'a>(
     config: &Config,
+    names: &Held,
     message: &Message<'_>,
     subnet: &'a Subnet,
     address: u32,
 ) -> Option<&'a Reservation>
-    ensures { option_copied result ≡ reservation_at config.now message.now subnet.now address }
+    ensures { option_copied result
+        ≡ reservation_at config.now names.now message.now subnet.now address }
 {
-    match reservation_of(config, message, subnet) {
+    match reservation_of(config, names, message, subnet) {
         Some(reservation) => Some(reservation),
         None => unseen(config, message, subnet, address),
     }
 }
 
-// Returns the reservation of an address for a circuit, if the message renews the address without a
-// relay and clients keep their leases.
+// Returns the reservation of an address, if it may be that of the message's client, the message renews
+// the address without a relay and clients keep their leases.
 fn unseen<'a>(
     config: &Config,
     message: &Message<'_>,
@@ -111,32 +191,88 @@ fn unseen<'a>(
 ) -> Option<&'a Reservation>
     ensures { option_copied result
         ≡ (if config.now.extensions.keeps_leases && renews_alone message.now address
-        then circuit_reservation subnet.now address else None) }
+        then unseen_reservation message.now subnet.now address else None) }
 {
     if config.extensions().keeps_leases && is_renewed_alone(message, address) {
-        of_circuit(subnet, address)
+        unseen_of(message, subnet, address)
     } else {
         None
     }
 }
 
-// Returns the reservation of an address if it is for a circuit.
-pub(crate) fn of_circuit(subnet: &Subnet, address: u32) -> Option<&Reservation>
-    ensures { option_copied result ≡ circuit_reservation subnet.now address }
+// Returns the reservation of an address if it may be for the client of a message although no relay
+// says what shows it.
+pub(crate) fn unseen_of<'a>(
+    message: &Message<'_>,
+    subnet: &'a Subnet,
+    address: u32,
+) -> Option<&'a Reservation>
+    ensures { option_copied result ≡ unseen_reservation message.now subnet.now address }
 {
     match subnet.reservations.of_address(address) {
-        Some(reservation) => if_behind(reservation),
+        Some(reservation) => if_its(message, reservation),
         None => None,
     }
 }
 
-// Returns a reservation if it is for a circuit.
-fn if_behind(reservation: &Reservation) -> Option<&Reservation>
-    ensures { option_copied result ≡ if_for_circuit (Some reservation.now) }
+// Returns a reservation if it may be for the client of a message although no relay says what shows it.
+fn if_its<'a>(message: &Message<'_>, reservation: &'a Reservation) -> Option<&'a Reservation>
+    ensures { option_copied result ≡ if_unseen message.now (Some reservation.now) }
 {
-    match reservation.identity {
-        Identity::Circuit(_) => Some(reservation),
-        _ => None,
+    if may_be_its(message, reservation) {
+        Some(reservation)
+    } else {
+        None
+    }
+}
+
+// Reports whether a reservation is for a circuit, or for the client of a message in some classes.
+fn may_be_its(message: &Message<'_>, reservation: &Reservation) -> bool
+    ensures { result ≡ may_be_unseen message.now reservation.now }
+{
+    is_for_circuit(&reservation.identity)
+        || (is_for(message, &reservation.identity) && !lacks_classes(reservation))
+}
+
+// Reports whether a client is known by its circuit.
+fn is_for_circuit(identity: &Identity) -> bool
+    ensures { result ≡ is_behind_circuit identity.now }
+{
+    match identity {
+        Identity::Circuit(_) => true,
+        _ => false,
+    }
+}
+
+/// Reports whether a reservation is for the client of a message by what the client itself says.
+pub fn is_for(message: &Message<'_>, identity: &Identity) -> bool
+    ensures { result ≡ is_own message.now identity.now }
+{
+    match identity {
+        Identity::Hardware(bytes) => message.mac() == bytes.as_slice(),
+        Identity::Duid(bytes) => is_value(bytes, identity_bytes(message, IdentityKind::Duid)),
+        Identity::Circuit(_) => false,
+        Identity::ClientId(bytes) => is_value(bytes, message.option(OPTION_CLIENT_IDENTIFIER)),
+    }
+}
+
+// Reports whether there is a value and it is these bytes.
+fn is_value(bytes: &Bytes, value: Option<&[u8]>) -> bool
+    ensures { result ≡ same_value bytes.now (option_copied value.entry) }
+{
+    match value {
+        Some(value) => value == bytes.as_slice(),
+        None => false,
+    }
+}
+
+// Reports whether a reservation requires no class.
+fn lacks_classes(reservation: &Reservation) -> bool
+    ensures { result ≡ are_none reservation.now.classes }
+{
+    match reservation.classes.as_slice() {
+        [] => true,
+        [_, ..] => false,
     }
 }
 
@@ -144,13 +280,14 @@ fn if_behind(reservation: &Reservation) -> Option<&Reservation>
 /// host order; none if there is no such reservation.
 pub fn reservation_options<'a>(
     config: &Config,
+    names: &Held,
     message: &Message<'_>,
     subnet: &'a Subnet,
     address: u32,
 ) -> &'a [OptionData]
-    ensures { result.now ≡ reserved_options config.now message.now subnet.now address }
+    ensures { result.now ≡ reserved_options config.now names.now message.now subnet.now address }
 {
-    match reservation_for(config, message, subnet, address) {
+    match reservation_for(config, names, message, subnet, address) {
         Some(reservation) => reservation.options.as_slice(),
         None => &[],
     }

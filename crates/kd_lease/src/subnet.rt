@@ -3,7 +3,7 @@ ghost use Rattle.std.specs.List.{find, list_any};
 ghost use Rattle.kd_config.specs.Apart.{has};
 ghost use Rattle.kd_lease.specs.Given.{options_of_pool};
 ghost use Rattle.kd_lease.specs.Client.{selected_link};
-ghost use Rattle.kd_lease.specs.SubnetOf.{class_admits, first_serving, has_place, header_place, is_by_relay, link_of, message_place, served_by, subnet_serving};
+ghost use Rattle.kd_lease.specs.SubnetOf.{classes_admit, first_serving, has_place, header_place, is_by_relay, link_of, message_place, served_by, subnet_serving};
 
 use crate::fit::address_in;
 use kd_classes::OptionData;
@@ -17,8 +17,8 @@ const LINK_SELECTION: u8 = 5;
 
 /// Returns the subnet in which a message with classes of these names is served by its place: the
 /// first whose relays have that of the message, or else, if no subnet has it, whose prefix contains
-/// the place of the message; and the class that it requires, if any, is held. If it is in a shared
-/// network, that is served as one subnet.
+/// the place of the message; and each class that it requires is held. If it is in a shared network,
+/// that is served as one subnet.
 #[tactic(auto, unfolding(crate::specs::SubnetOf::subnet_serving))]
 pub fn subnet_of<'a>(config: &'a Config, names: &Held, message: &Message<'_>) -> Option<&'a Subnet>
     ensures { option_copied result ≡ subnet_serving config.now names.now message.now }
@@ -113,11 +113,11 @@ fn place_in(server: u32, header: &Header) -> u32
 }
 
 /// Reports whether the subnet serves a place, an address in host order, and a client in the classes
-/// with these names: it has the place, and the class that it requires, if any, is held.
+/// with these names: it has the place, and each class that it requires is held.
 pub fn serves(by_relay: bool, place: u32, names: &Held, subnet: &Subnet) -> bool
     ensures { result ≡ served_by by_relay place names.now subnet.now }
 {
-    is_at(by_relay, place, subnet) && admits(&subnet.class, names)
+    is_at(by_relay, place, subnet) && admits(subnet.classes.as_slice(), names)
 }
 
 /// Reports whether the subnet has a place, an address in host order: as a relay of its own, or else
@@ -139,14 +139,11 @@ fn names_relay(address: u32, relays: &[u32]) -> bool
     relays.iter().any(|relay| *relay == address)
 }
 
-// Reports whether the class that a subnet or a pool requires is held; true if it requires none.
-pub(crate) fn admits(class: &Option<Bytes>, names: &Held) -> bool
-    ensures { result ≡ class_admits class.now names.now }
+// Reports whether each class that a subnet or a pool requires is held.
+pub(crate) fn admits(classes: &[Bytes], names: &Held) -> bool
+    ensures { result ≡ classes_admit classes.now names.now }
 {
-    match class {
-        Some(class) => names.contains(class.as_slice()),
-        None => true,
-    }
+    classes.iter().all(|class| names.contains(class.as_slice()))
 }
 
 /// Returns the options of the first pool of the subnet that contains the address, in host order;

@@ -11,7 +11,7 @@ use Rattle.kd_pools.specs.Counts.{free_at}
 pub record IsNewAsking (q : Asking) (s : Subnet) (a : ℕ) : Type 0 where
   pub pooled : pooled q.names s a ≡ true
   pub no_row : (b : ℕ) → has_such (belongs_to q.client) (row_at q.rows b) ≡ false
-  pub no_reservation : client_reservation q.config q.message s ≡ None
+  pub no_reservation : client_reservation q.config q.names q.message s ≡ None
   pub asked : requested_address q.message ≡ Some a
 
 -- the address is the choice for this client if and only if it counts as free

@@ -12,6 +12,7 @@ use crate::objects::values::check_keys;
 use crate::rules::place::{Place, bad_value};
 use crate::text::range::range_of;
 use kd_config::{Pool, Range};
+use kd_wire::Entries;
 use serde_json::Value;
 use std::alloc::Global;
 
@@ -32,7 +33,7 @@ impl EntryReader for PoolReader {
         let options = options_of(alloc, value, at)?;
         Ok(Pool {
             range,
-            class: None,
+            classes: Entries::own(Vec::new(alloc)),
             options,
         })
     }

@@ -11,7 +11,7 @@ use crate::objects::values::{address_in, bytes_or_none, check_keys};
 use crate::rules::place::{Place, bad_value, missing};
 use kd_classes::{BootList, OptionList};
 use kd_config::{Identity, Reservation};
-use kd_wire::Bytes;
+use kd_wire::{Bytes, Entries};
 use serde_json::Value;
 use std::alloc::Global;
 
@@ -38,6 +38,7 @@ impl EntryReader for ReservationReader {
                 address: Some(address),
                 options: OptionList::own(Vec::new(alloc)),
                 boots: BootList::own(Vec::new(alloc)),
+                classes: Entries::own(Vec::new(alloc)),
             }),
             None => Err(bad_value(alloc, at, "ip-address")),
         }

@@ -14,7 +14,7 @@ use crate::objects::values::{check_keys, number_or, text_or_none};
 use crate::rules::place::{Place, bad_value};
 use crate::text::prefix::prefix_of;
 use kd_classes::{Boot, OptionList};
-use kd_config::{Prefix, Reservations, Subnet};
+use kd_config::{Prefix, Reservations, Subnet, classes_of};
 use kd_wire::{Bytes, Entries};
 use serde_json::Value;
 use std::alloc::Global;
@@ -57,7 +57,7 @@ fn subnet_of_lists(
     Ok(Subnet {
         prefix,
         relays: Entries::own(Vec::new(alloc)),
-        class,
+        classes: classes_of(alloc, class)?,
         pools,
         reservations,
         options,

@@ -1,11 +1,10 @@
 ghost use Rattle.std.specs.Prelude.{◌≡◌, ◌≤◌, ◌++◌, IfOk, OnOk, codes, is_some, length, map, option_and_then};
-ghost use Rattle.std.specs.List.{list_all};
 ghost use Rattle.serde_json.specs.Find.{as_str, get};
 ghost use Rattle.serde_json.specs.View.{view};
 ghost use Rattle.kd_json.specs.Gives.{Means};
 ghost use Rattle.kd_json.specs.Steps.{must};
 ghost use Rattle.kd_json.specs.declared.objects.faults.SettingsFault.TheVariants.{Memory};
-ghost use Rattle.kd_kea.specs.Network.{all_subnets, as_member, has_network_form, is_in_one_of, is_for_each, is_interface_of, kea_common, kea_member, kea_network, kea_subnets, may_be_of, numbered, one_class, relays_or, with_network};
+ghost use Rattle.kd_kea.specs.Network.{all_subnets, as_member, has_network_form, is_in_one_of, is_interface_of, kea_common, kea_member, kea_network, kea_subnets, numbered, relays_or, with_network};
 
 use crate::checking::check_keys;
 use crate::objects::definition::Definition;
@@ -17,7 +16,7 @@ use crate::objects::scope::part_scope;
 use crate::objects::subnet::{Above, SubnetReader, above_in};
 use crate::tables::ObjectKind;
 use kd_classes::OptionList;
-use kd_config::{Pool, Reservation, Subnet, class_copied, options_copied};
+use kd_config::{Subnet, classes_joined, classes_of, options_copied};
 use kd_json::objects::faults::SettingsFault;
 use kd_json::objects::lists::{EntryReader, entries_of};
 use kd_json::objects::values::text_or_none;
@@ -106,8 +105,8 @@ fn push_members(
 pub(crate) struct Common {
     // The relays of a member that names none.
     pub(crate) relays: Entries<u32>,
-    // The class of each member, if there is one.
-    pub(crate) class: Option<Bytes>,
+    // The classes that each member requires.
+    pub(crate) classes: Entries<Bytes>,
     // The options of the network.
     pub(crate) options: OptionList,
 }
@@ -185,7 +184,7 @@ fn common_of(
     let options = options_of(alloc, network, at, part_scope(known))?;
     Ok(Common {
         relays,
-        class: non_empty(class),
+        classes: classes_of(alloc, non_empty(class))?,
         options,
     })
 }
@@ -251,34 +250,26 @@ impl<'a> EntryReader for MemberReader<'a> {
             known: self.known,
         };
         let subnet = reader.read(alloc, value, at)?;
-        member_of(alloc, at, self.common, subnet)
+        Ok(member_of(alloc, self.common, subnet)?)
     }
 }
 
 // Makes a subnet a member of a network that has this in common.
 #[tactic(auto, unfolding(crate::specs::Network::as_member))]
-fn member_of(
-    alloc: Global,
-    at: &Place<'_>,
-    common: &Common,
-    subnet: Subnet,
-) -> Result<Subnet, SettingsFault>
-    ensures { Means Memory result (as_member common.now subnet) }
+fn member_of(alloc: Global, common: &Common, subnet: Subnet) -> Result<Subnet, AllocError>
+    ensures { IfOk result (λ member. member ≡ as_member common.now subnet) }
 {
-    let class = class_of_both(alloc, at, &subnet.class, &common.class)?;
-    check_class(
-        alloc,
-        at,
-        &class,
-        subnet.pools.as_slice(),
-        subnet.reservations.as_slice(),
-    )?;
     let relays = relays_of_both(alloc, subnet.relays.as_slice(), common.relays.as_slice())?;
+    let classes = classes_joined(
+        alloc,
+        subnet.classes.as_slice(),
+        common.classes.as_slice(),
+    )?;
     let shared = options_copied(alloc, common.options.as_slice())?;
     Ok(Subnet {
         prefix: subnet.prefix,
         relays,
-        class,
+        classes,
         pools: subnet.pools,
         reservations: subnet.reservations,
         options: subnet.options,
@@ -289,64 +280,19 @@ fn member_of(
     })
 }
 
-// Returns the class of a member, its own or that of its network. They may not both be given.
-fn class_of_both(
-    alloc: Global,
-    at: &Place<'_>,
-    own: &Option<Bytes>,
-    other: &Option<Bytes>,
-) -> Result<Option<Bytes>, SettingsFault>
-    ensures { Means Memory result (one_class own.now other.now) }
-{
-    match (own, other) {
-        (None, _) => Ok(class_copied(alloc, other)?),
-        (Some(_), None) => Ok(class_copied(alloc, own)?),
-        (Some(_), Some(_)) => Err(unknown(alloc, at, "client-class")),
-    }
-}
-
 // Returns the relays of a member: its own, or those of its network if it names none.
 fn relays_of_both(alloc: Global, own: &[u32], others: &[u32]) -> Result<Entries<u32>, AllocError>
     ensures { IfOk result (λ relays. relays ≡ relays_or own.now others.now) }
 {
-    if own.is_empty() {
-        Ok(Entries::own(Vec::from_slice(alloc, others)?))
-    } else {
-        Ok(Entries::own(Vec::from_slice(alloc, own)?))
-    }
+    Ok(Entries::own(Vec::from_slice(alloc, one_of(own, others))?))
 }
 
-// Checks that a member with these pools and reservations may be of a class.
-fn check_class(
-    alloc: Global,
-    at: &Place<'_>,
-    class: &Option<Bytes>,
-    pools: &[Pool],
-    reservations: &[Reservation],
-) -> Result<(), SettingsFault>
-    ensures { Means Memory result (must (may_be_of class.now pools.now reservations.now)) }
+// Returns some relays, or others if there are none.
+fn one_of<'a>(own: &'a [u32], others: &'a [u32]) -> &'a [u32]
+    ensures { result.now ≡ relays_or own.now others.now }
 {
-    if may_have_class(class, pools, reservations) {
-        Ok(())
-    } else {
-        Err(unknown(alloc, at, "client-class"))
+    match own {
+        [] => others,
+        _ => own,
     }
-}
-
-// Reports whether a member with these pools and reservations may be of a class.
-fn may_have_class(class: &Option<Bytes>, pools: &[Pool], reservations: &[Reservation]) -> bool
-    ensures { result ≡ may_be_of class.now pools.now reservations.now }
-{
-    match (class, reservations) {
-        (None, _) => true,
-        (Some(_), []) => are_for_each(pools),
-        (Some(_), _) => false,
-    }
-}
-
-// Reports whether each of these pools is for each client of its subnet.
-fn are_for_each(pools: &[Pool]) -> bool
-    ensures { result ≡ list_all is_for_each pools.now }
-{
-    pools.iter().all(|pool| pool.class.is_none())
 }

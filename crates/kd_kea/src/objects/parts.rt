@@ -4,7 +4,7 @@ ghost use Rattle.kd_json.specs.Gives.{Means};
 ghost use Rattle.kd_json.specs.declared.objects.faults.SettingsFault.TheVariants.{Memory};
 ghost use Rattle.kd_kea.specs.Parts.{first_part, first_parts, pool_part, part_count, parts_of, parts_of_all};
 
-use kd_config::{Pool, Range, class_copied, options_copied};
+use kd_config::{Pool, Range, classes_copied, options_copied};
 use kd_json::objects::faults::SettingsFault;
 use kd_json::rules::place::{Place, bad_value};
 use kd_wire::Entries;
@@ -67,7 +67,7 @@ fn part_of(alloc: Global, pool: &Pool, i: u32) -> Result<Pool, AllocError>
 {
     Ok(Pool {
         range: nth_part(pool.range, i),
-        class: class_copied(alloc, &pool.class)?,
+        classes: classes_copied(alloc, pool.classes.as_slice())?,
         options: options_copied(alloc, pool.options.as_slice())?,
     })
 }

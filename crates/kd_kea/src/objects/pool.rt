@@ -9,7 +9,7 @@ use crate::objects::flags::non_empty;
 use crate::objects::options::options_of;
 use crate::objects::scope::part_scope;
 use crate::tables::ObjectKind;
-use kd_config::{Pool, Range};
+use kd_config::{Pool, Range, classes_of};
 use kd_json::objects::faults::SettingsFault;
 use kd_json::objects::lists::EntryReader;
 use kd_json::objects::pool::addresses_in;
@@ -49,7 +49,7 @@ impl<'a> EntryReader for PoolReader<'a> {
         let options = options_of(alloc, value, at, part_scope(self.known))?;
         Ok(Pool {
             range,
-            class: non_empty(class),
+            classes: classes_of(alloc, non_empty(class))?,
             options,
         })
     }

@@ -17,6 +17,7 @@ use kd_json::objects::faults::SettingsFault;
 use kd_json::objects::lists::EntryReader;
 use kd_json::objects::values::address_in;
 use kd_json::rules::place::{Place, bad_value};
+use kd_wire::Entries;
 use serde_json::Value;
 use std::alloc::Global;
 
@@ -54,6 +55,7 @@ impl<'a> EntryReader for ReservationReader<'a> {
             address,
             options,
             boots: boot_list(alloc, boot)?,
+            classes: Entries::own(Vec::new(alloc)),
         })
     }
 }

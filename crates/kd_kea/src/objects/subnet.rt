@@ -28,7 +28,7 @@ use crate::objects::reservation::ReservationReader;
 use crate::objects::scope::part_scope;
 use crate::tables::ObjectKind;
 use kd_classes::{Boot, OptionList};
-use kd_config::{Pool, Prefix, Reservation, Reservations, Subnet, Times};
+use kd_config::{Pool, Prefix, Reservation, Reservations, Subnet, Times, classes_of};
 use kd_json::objects::faults::SettingsFault;
 use kd_json::objects::lists::{EntryReader, entries_of};
 use kd_json::objects::subnet::prefix_in;
@@ -210,7 +210,7 @@ fn subnet_of_lists(
     Ok(Subnet {
         prefix,
         relays,
-        class,
+        classes: classes_of(alloc, class)?,
         pools,
         reservations,
         options,
