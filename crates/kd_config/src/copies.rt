@@ -54,11 +54,7 @@ pub fn classes_joined(
 }
 
 // Appends the names of classes.
-fn push_classes(
-    alloc: Global,
-    out: &mut Vec<Bytes>,
-    classes: &[Bytes],
-) -> Result<(), AllocError>
+fn push_classes(alloc: Global, out: &mut Vec<Bytes>, classes: &[Bytes]) -> Result<(), AllocError>
     ensures { OnOk result (out.new.items ≡ out.old.items ++ classes.now) }
 {
     for name in classes {

@@ -100,6 +100,6 @@ none_left by_relay place names (s ∷ left) h = absurd (omega (arith, h))
 module _ (by_relay : Bool) (place : ℕ) (names : List (List ℕ)) (s : Subnet) (subnets : List Subnet) where
   -- the lines of subnets, the first of which does not serve
   pub passed_first : served_by by_relay place names s ≡ false
-      → sought_lines by_relay place names (s ∷ subnets) ≡ sought_line s (passed_words by_relay place s) ++ sought_lines by_relay place names subnets
+      → sought_lines by_relay place names (s ∷ subnets) ≡ sought_line s (passed_words by_relay place names s) ++ sought_lines by_relay place names subnets
   unfolding sought_lines
-  passed_first is = ap (λ b. if b then sought_line s (codes " serves") ++ flat_map (later_line s) subnets else sought_line s (passed_words by_relay place s) ++ sought_lines by_relay place names subnets) is
+  passed_first is = ap (λ b. if b then sought_line s (codes " serves") ++ flat_map (later_line s) subnets else sought_line s (passed_words by_relay place names s) ++ sought_lines by_relay place names subnets) is

@@ -1,13 +1,15 @@
 -- The lines of what the rules check (RFC 2131 section 4.3), up to the check at which a message
 -- ends.
-use Rattle.std.specs.Prelude.{◌≡◌, ℕ, ◌==◌, nat_lt, Bool, if◌then◌else◌, List, [], ◌∷◌, ◌++◌, Option, Some, None, is_some, Result, Err, codes}
-use Rattle.std.specs.List.{flat_map}
+use Rattle.std.specs.Prelude.{◌≡◌, ℕ, ◌==◌, nat_lt, Bool, false, if◌then◌else◌, List, [], ◌∷◌, ◌++◌, Option, Some, None, is_some, Result, Err, codes}
+use Rattle.std.specs.List.{find, flat_map}
+use Rattle.kd_config.specs.Reservation.{has_reserved}
+use Rattle.kd_config.specs.declared.reservation.Reservation.{Reservation}
 use Rattle.kd_config.specs.declared.subnet.Subnet.{Subnet}
 use Rattle.kd_event.specs.declared.reason.Reason.{Reason}
 use Rattle.kd_event.specs.declared.reason.Reason.TheVariants as reasons
 use Rattle.kd_lease.specs.Choice.{Asking, address_reserved, contained, pooled, reserved_anywhere, same_address}
 use Rattle.kd_lease.specs.Client.{kind_of, named_server}
-use Rattle.kd_lease.specs.Kept.{circuit_reservation, passes}
+use Rattle.kd_lease.specs.Kept.{circuit_reservation, is_own_in_classes, passes}
 use Rattle.kd_lease.specs.Rules.{IsAbout, checks_in, ending, fails, holds_at, kept_subnet, passes_in, rule_of, serving_subnet}
 use Rattle.kd_lease.specs.declared.plan.Plan.{Plan}
 use Rattle.kd_lease.specs.declared.rule.Check.{Check}
@@ -125,11 +127,22 @@ pool_word is_given is_in =
 abbrev pub reserved_for_circuit : Subnet → ℕ → Bool
 reserved_for_circuit s a = is_some (circuit_reservation s a)
 
--- whom the address is reserved for: the client, or else a circuit, or else anybody
-abbrev pub reserved_word : Bool → Bool → Bool → List ℕ
-reserved_word is_its is_circuits is_reserved =
+-- there is a reservation, and it is for the client of a message in some classes
+abbrev pub is_own_if_some : Seen → Option Reservation → Bool
+is_own_if_some m None = false
+is_own_if_some m (Some reservation) = is_own_in_classes m reservation
+
+-- the reservation of an address in a subnet is of that kind
+abbrev pub reserved_in_classes : Seen → Subnet → ℕ → Bool
+reserved_in_classes m s a = is_own_if_some m (find (has_reserved a) s.reservations)
+
+-- whom the address is reserved for: the client, or else a circuit, or else the client in classes in
+-- which it is not, or else anybody
+abbrev pub reserved_word : Bool → Bool → Bool → Bool → List ℕ
+reserved_word is_its is_circuits is_in_classes is_reserved =
     if is_its then codes "reserved for the client"
     else if is_circuits then codes "reserved for a circuit"
+    else if is_in_classes then codes "reserved for the client in its classes"
     else if is_reserved then codes "reserved otherwise" else codes "not reserved"
 
 -- the pool and the reservation of the address in the subnet that serves the message
@@ -138,7 +151,8 @@ place_words q s a =
     pool_word (passes_in (pooled q.names) s a) (passes_in contained s a) ++ codes ", "
     ++ reserved_word
     (passes_in (λ t b. same_address (address_reserved q.config q.names q.message t) b) s a)
-    (passes_in reserved_for_circuit s a) (passes (reserved_anywhere q.config) a)
+    (passes_in reserved_for_circuit s a) (passes_in (reserved_in_classes q.message) s a)
+    (passes (reserved_anywhere q.config) a)
 
 -- whether it fits
 abbrev pub fit_words : Bool → List ℕ

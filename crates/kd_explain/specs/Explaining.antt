@@ -21,9 +21,9 @@ use Rattle.kd_explain.specs.Testing.{AreTested}
 use Rattle.kd_explain.specs.declared.explaining.Explanation.{Explanation}
 
 -- the reservation for the client of a message in a subnet, if there is a subnet
-abbrev pub IsReservedIn : Configuration → Seen → Option Subnet → Option Reservation → Type 0
-IsReservedIn config m None found = found ≡ None
-IsReservedIn config m (Some s) found = found ≡ client_reservation config names m s
+abbrev pub IsReservedIn : Configuration → List (List ℕ) → Seen → Option Subnet → Option Reservation → Type 0
+IsReservedIn config names m None found = found ≡ None
+IsReservedIn config names m (Some s) found = found ≡ client_reservation config names m s
 
 -- the first address of each rank in a subnet, if there is a subnet
 abbrev pub AreFoundIn : Asking → Option Subnet → Option Ranks → Type 0
@@ -53,7 +53,8 @@ pub record Explains (config : Configuration) (rows : List Row) (m : Seen) (now :
   pub kept : option_copied e.kept ≡ kept_for (identity_under config m) config rows m now
   pub subnet : option_copied e.subnet
       ≡ option_or (option_copied e.kept) (subnet_serving config e.names m)
-  pub reservation : IsReservedIn config m (option_copied e.subnet) (option_copied e.reservation)
+  pub reservation : IsReservedIn config e.names m (option_copied e.subnet)
+      (option_copied e.reservation)
   pub ranks : AreFoundFor (identity_under config m) (asked_for config rows e.names m now)
       (option_copied e.subnet) e.ranks
   pub decides : Decides config rows e.names m now e.decision.row (outcome_in e.decision.answer)

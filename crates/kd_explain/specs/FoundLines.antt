@@ -1,7 +1,7 @@
 -- The lines of what a message is and of what is found for it: its classes, its place, its subnet,
 -- its reservation and the ranks of addresses.
 use Rattle.std.specs.Prelude.{ℕ, ◌==◌, ◌&&◌, not, Bool, true, false, is_some, if◌then◌else◌, List, [], ◌∷◌, ◌++◌, drop, Option, Some, None, Result, Err, codes, decimal, option_copied}
-use Rattle.std.specs.List.{flat_map}
+use Rattle.std.specs.List.{find, flat_map}
 use Rattle.kd_classes.specs.declared.definition.ClassDef.{ClassDef}
 use Rattle.kd_config.specs.Configuration.{Configuration}
 use Rattle.kd_config.specs.declared.reservation.Identity.{Identity}
@@ -15,6 +15,7 @@ use Rattle.kd_lease.specs.Kept.{has_to_keep}
 use Rattle.kd_lease.specs.SubnetOf.{has_place, is_by_relay, link_of, message_place, served_by}
 use Rattle.kd_lease.specs.declared.plan.Plan.{Plan}
 use Rattle.kd_lease.specs.declared.ranks.Ranks.{Ranks}
+use Rattle.kd_machine.specs.Parts.{is_held}
 use Rattle.kd_machine.specs.declared.run.Outcome.{Outcome}
 use Rattle.kd_names.specs.Values.{message_type_word}
 use Rattle.kd_options.specs.Kind.{type_number}
@@ -110,7 +111,7 @@ unfoldable pub sought_line : Subnet → List ℕ → List ℕ
 sought_line s words =
     codes "subnet " ++ prefix_text s.prefix.address s.prefix.length ++ words ++ codes "\n"
 
--- the class that a subnet is for
+-- the name of a class, if there is one
 abbrev pub class_word : Option (List ℕ) → List ℕ
 class_word None = codes "-"
 class_word (Some class) = name_text class
@@ -119,12 +120,16 @@ class_word (Some class) = name_text class
 abbrev pub elsewhere_words : Bool → List ℕ
 elsewhere_words by_relay = if by_relay then codes " is no relay of it" else codes " is outside"
 
+-- the first of these classes that is not held
+abbrev pub missing_class : List (List ℕ) → List (List ℕ) → Option (List ℕ)
+missing_class classes names = find (λ class. not (is_held class names)) classes
+
 -- why a subnet is passed over: the place is no relay of it, or outside its prefix; otherwise the
--- message is not in its class
-unfoldable pub passed_words : Bool → ℕ → Subnet → List ℕ
-passed_words by_relay place s =
+-- message is not in one of its classes, of which the first is named
+unfoldable pub passed_words : Bool → ℕ → List (List ℕ) → Subnet → List ℕ
+passed_words by_relay place names s =
     if has_place by_relay place s
-    then codes " passed over: the client is not in class " ++ class_word s.class
+    then codes " passed over: the client is not in class " ++ class_word (missing_class s.classes names)
     else codes " passed over: " ++ address_text place ++ elsewhere_words by_relay
 
 -- a subnet is in the shared network of another one
@@ -146,7 +151,7 @@ sought_lines by_relay place names [] = codes "subnet - none serves\n"
 sought_lines by_relay place names (s ∷ subnets) =
     if served_by by_relay place names s
     then sought_line s (codes " serves") ++ flat_map (later_line s) subnets
-    else sought_line s (passed_words by_relay place s) ++ sought_lines by_relay place names subnets
+    else sought_line s (passed_words by_relay place names s) ++ sought_lines by_relay place names subnets
 
 -- what a subnet is to an address whose lease is kept
 abbrev pub keeping_words : Bool → List ℕ

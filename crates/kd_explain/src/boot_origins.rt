@@ -36,7 +36,10 @@ pub fn boot_origin_of(
 ) -> Option<Origin>
     ensures { IsBootOrigin config.now subnet.now names.now message.now address field result }
 {
-    if host_gives(reservation_for(config, message, subnet, address), field) {
+    if host_gives(
+        reservation_for(config, names, message, subnet, address),
+        field,
+    ) {
         return Some(Origin::Reservation);
     }
     if let Some(index) = class_giving(config.classes(), names, Gift::Field(field)) {

@@ -57,7 +57,7 @@ pub fn explain<'a>(
     let client = identity_for(alloc, config, message)?;
     let kept = subnet_kept_for(Ground::of(config, rows), message, &client, moment);
     let subnet = subnet_or(kept, config, &names, message);
-    let reservation = reservation_in(config, message, subnet);
+    let reservation = reservation_in(config, &names, message, subnet);
     let asked = Asked {
         config,
         rows,
@@ -98,14 +98,15 @@ fn subnet_kept_for<'a>(
 // Returns the reservation for the client of a message in a subnet, if there is one.
 fn reservation_in<'a>(
     config: &Config,
+    names: &Held,
     message: &Message<'_>,
     subnet: Option<&'a Subnet>,
 ) -> Option<&'a Reservation>
-    ensures { IsReservedIn config.now message.now (option_copied subnet.entry)
+    ensures { IsReservedIn config.now names.now message.now (option_copied subnet.entry)
         (option_copied result) }
 {
     match subnet {
-        Some(subnet) => reservation_of(config, message, subnet),
+        Some(subnet) => reservation_of(config, names, message, subnet),
         None => None,
     }
 }

@@ -6,12 +6,14 @@ ghost use Rattle.kd_lease.specs.Rules.{asking, kept_subnet, passes_in, serving_s
 ghost use Rattle.kd_listing.specs.Leases.{word_of_live};
 ghost use Rattle.kd_text.specs.Text.{address_text};
 ghost use Rattle.kd_explain.specs.CheckLines.{address_line, address_source, fit_words, fits_line, free_line, held_line, kept_words, known_line, lasts_line, network_word, offer_line, owner_line};
-ghost use Rattle.kd_explain.specs.CheckLines.{place_words, pool_word, prefix_line, renewed_source, reserved_for_circuit, reserved_word, row_line_at, row_words};
+ghost use Rattle.kd_explain.specs.CheckLines.{place_words, pool_word, prefix_line, renewed_source, reserved_for_circuit, reserved_in_classes, reserved_word, row_line_at, row_words};
 ghost use Rattle.kd_explain.specs.CheckLines.{sender_line, served_line, served_word, server_line, which_word};
 
 use crate::words::{type_name, yes_or_no};
 use kd_config::{Identity, Reservation, Subnet};
-use kd_lease::{Matter, Question, Rule, contains, in_pools, is_reserved, reservation_of};
+use kd_lease::{
+    Matter, Question, Rule, contains, in_pools, is_own_in_some, is_reserved, reservation_of,
+};
 use kd_listing::put_row;
 use kd_options::Message;
 use kd_rows::Row;
@@ -391,12 +393,15 @@ fn reserved_phrase(question: &Question<'_>, address: Option<u32>) -> &'static st
         (passes_in (λ s a. same_address (address_reserved q.config q.names q.message s) a)
         (serving_subnet q) address)
         (passes_in reserved_for_circuit (serving_subnet q) address)
+        (passes_in (reserved_in_classes q.message) (serving_subnet q) address)
         (passes (reserved_anywhere q.config) address) }
 {
     if is_its(question, address) {
         "reserved for the client"
     } else if is_for_circuit(question, address) {
         "reserved for a circuit"
+    } else if is_in_classes(question, address) {
+        "reserved for the client in its classes"
     } else if is_withheld(question, address) {
         "reserved otherwise"
     } else {
@@ -420,7 +425,7 @@ fn is_reserved_for(question: &Question<'_>, subnet: &Subnet, address: u32) -> bo
     ensures { let q = asking question.now in
         result ≡ same_address (address_reserved q.config q.names q.message subnet.now) address }
 {
-    match reservation_of(question.config, question.message, subnet) {
+    match reservation_of(question.config, question.names, question.message, subnet) {
         Some(reservation) => is_of_address(reservation, address),
         None => false,
     }
@@ -464,6 +469,27 @@ fn names_circuit(reservation: &Reservation) -> bool
     match reservation.identity {
         Identity::Circuit(_) => true,
         _ => false,
+    }
+}
+
+// Reports whether the reservation of an address, in the subnet that serves a message, is for the client
+// in some classes.
+fn is_in_classes(question: &Question<'_>, address: Option<u32>) -> bool
+    ensures { let q = asking question.now in
+        result ≡ passes_in (reserved_in_classes q.message) (serving_subnet q) address }
+{
+    match (question.subnet, address) {
+        (Some(subnet), Some(address)) => has_in_classes(question.message, subnet, address),
+        _ => false,
+    }
+}
+
+fn has_in_classes(message: &Message<'_>, subnet: &Subnet, address: u32) -> bool
+    ensures { result ≡ reserved_in_classes message.now subnet.now address }
+{
+    match subnet.reservations.of_address(address) {
+        Some(reservation) => is_own_in_some(message, reservation),
+        None => false,
     }
 }
 

@@ -44,7 +44,10 @@ pub fn origin_of(
 ) -> Option<Origin>
     ensures { IsOrigin config.now subnet.now names.now message.now address code result }
 {
-    if lists(reservation_options(config, message, subnet, address), code) {
+    if lists(
+        reservation_options(config, names, message, subnet, address),
+        code,
+    ) {
         return Some(Origin::Reservation);
     }
     if lists(pool_options(subnet, address), code) {

@@ -1,7 +1,7 @@
 ghost use Rattle.std.specs.Prelude.{◌≡◌, ◌++◌, OnOk, codes, option_copied, string_bytes};
 ghost use Rattle.std.specs.List.{flat_map};
 ghost use Rattle.kd_lease.specs.SubnetOf.{is_by_relay, message_place};
-ghost use Rattle.kd_explain.specs.FoundLines.{class_word, elsewhere_words, header_word, keeping_line, keeping_words, key_word, later_line, later_words, passed_words, place_line, place_word};
+ghost use Rattle.kd_explain.specs.FoundLines.{class_word, elsewhere_words, header_word, keeping_line, keeping_words, key_word, later_line, later_words, missing_class, passed_words, place_line, place_word};
 ghost use Rattle.kd_explain.specs.FoundLines.{reservation_line, reserved_line, shares_network, sought_line, sought_lines, served_lines};
 
 use crate::text::Scene;
@@ -210,7 +210,7 @@ fn put_passed(
     subnet: &Subnet,
 ) -> Result<(), AllocError>
     ensures { OnOk result (string_bytes out.new ≡ string_bytes out.old ++ sought_line subnet.now
-        (passed_words sought.entry.by_relay sought.entry.place subnet.now)) }
+        (passed_words sought.entry.by_relay sought.entry.place sought.entry.names.now subnet.now)) }
 {
     out.push_str("subnet ")?;
     put_prefix(out, subnet.prefix.address, subnet.prefix.length)?;
@@ -227,11 +227,16 @@ fn put_why_passed(
     subnet: &Subnet,
 ) -> Result<(), AllocError>
     ensures { OnOk result (string_bytes out.new ≡ string_bytes out.old
-        ++ passed_words sought.entry.by_relay sought.entry.place subnet.now) }
+        ++ passed_words sought.entry.by_relay sought.entry.place sought.entry.names.now
+        subnet.now) }
 {
     if is_at(sought.by_relay, sought.place, subnet) {
         out.push_str(" passed over: the client is not in class ")?;
-        put_class_name(alloc, out, &subnet.class)
+        put_class_name(
+            alloc,
+            out,
+            class_missing(subnet.classes.as_slice(), sought.names),
+        )
     } else {
         out.push_str(" passed over: ")?;
         put_address(out, sought.place)?;
@@ -249,8 +254,18 @@ fn elsewhere(by_relay: bool) -> &'static str
     }
 }
 
-fn put_class_name(alloc: Global, out: &mut String, class: &Option<Bytes>) -> Result<(), AllocError>
-    ensures { OnOk result (string_bytes out.new ≡ string_bytes out.old ++ class_word class.now) }
+// Returns the first of these classes that is not held.
+fn class_missing<'a>(classes: &'a [Bytes], names: &Held) -> Option<&'a Bytes>
+    ensures { option_copied result ≡ missing_class classes.now names.now }
+{
+    classes
+        .iter()
+        .find(|class| !names.contains(class.as_slice()))
+}
+
+fn put_class_name(alloc: Global, out: &mut String, class: Option<&Bytes>) -> Result<(), AllocError>
+    ensures { OnOk result (string_bytes out.new
+        ≡ string_bytes out.old ++ class_word (option_copied class.entry)) }
 {
     match class {
         Some(class) => put_name(alloc, out, class.as_slice()),

@@ -1,7 +1,7 @@
 -- The lease that a client keeps as it renews it, whatever its classes and its circuit (our own
 -- choice). A renewal is sent to the server alone (RFC 2131 section 4.4.5), so no relay adds to it what
 -- the client's classes and its reservation were chosen by (RFC 3046).
-use Rattle.std.specs.Prelude.{ℕ, Bool, true, false, not, ◌&&◌, ◌||◌, ◌==◌, List, [], ◌∷◌, Option, Some, None, is_none, option_map, if◌then◌else◌}
+use Rattle.std.specs.Prelude.{ℕ, Bool, true, false, not, ◌&&◌, ◌||◌, ◌==◌, length, List, Option, Some, None, is_none, option_map, if◌then◌else◌}
 use Rattle.std.specs.List.{find}
 use Rattle.std.specs.Option.{option_or}
 use Rattle.std.specs.Str.{bytes_eq}
@@ -75,17 +75,16 @@ is_own m (clients.Duid bytes) = same_value bytes (duid_in (value_of 61 m.options
 is_own m (clients.Circuit bytes) = false
 is_own m (clients.ClientId bytes) = same_value bytes (value_of 61 m.options)
 
--- there are none of them
-abbrev pub are_none : List (List ℕ) → Bool
-are_none [] = true
-are_none (class ∷ classes) = false
+-- a reservation is for the client of a message by what the client itself says, in some classes
+abbrev pub is_own_in_classes : Seen → Reservation → Bool
+is_own_in_classes m reservation =
+    is_own m reservation.identity && not (length reservation.classes == 0)
 
 -- a reservation may be for the client of a message although no relay says what shows it: it is for a
--- circuit, or it is for the client and requires classes
+-- circuit, or it is for the client in some classes
 abbrev pub may_be_unseen : Seen → Reservation → Bool
 may_be_unseen m reservation =
-    is_behind_circuit reservation.identity
-    || (is_own m reservation.identity && not (are_none reservation.classes))
+    is_behind_circuit reservation.identity || is_own_in_classes m reservation
 
 -- a reservation, if there is one and it is of that kind
 abbrev pub if_unseen : Seen → Option Reservation → Option Reservation

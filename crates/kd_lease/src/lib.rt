@@ -65,7 +65,9 @@ pub use plan::{Outline, Plan, PlanKind};
 pub use question::{Question, subnet_or};
 pub use ranks::{Ranks, ranks_of};
 pub use recipient::destination;
-pub use reservation::{is_reserved, reservation_for, reservation_of, reservation_options};
+pub use reservation::{
+    is_own_in_some, is_reserved, reservation_for, reservation_of, reservation_options,
+};
 pub use rule::{Check, Ending, Line, Rule};
 pub use search::{is_client_at, is_held_at, knows_client};
 pub use server::{renewed_of, server_of};

@@ -4,7 +4,7 @@ ghost use Rattle.std.specs.Option.{option_copied};
 ghost use Rattle.kd_config.specs.Reservation.{is_client, is_client_if};
 ghost use Rattle.kd_lease.specs.Choice.{reserved_anywhere, reserved_in, client_reservation, address_reserved, is_from, ranked_reservation, reservation_by, same_value};
 ghost use Rattle.kd_lease.specs.Given.{reserved_options};
-ghost use Rattle.kd_lease.specs.Kept.{are_none, if_unseen, is_behind_circuit, is_own, may_be_unseen, renews_alone, reservation_at, unseen_reservation};
+ghost use Rattle.kd_lease.specs.Kept.{if_unseen, is_behind_circuit, is_own, is_own_in_classes, may_be_unseen, renews_alone, reservation_at, unseen_reservation};
 ghost use Rattle.kd_lease.specs.Seeking.{reserves};
 ghost use Rattle.kd_lease.specs.SubnetOf.{classes_admit};
 
@@ -67,11 +67,7 @@ fn first_listed<'a>(message: &Message<'_>, subnet: &'a Subnet) -> Option<&'a Res
 
 // Returns the reservation for the client of a message by the first kind of identity that has one whose
 // classes are held.
-fn ranked<'a>(
-    names: &Held,
-    message: &Message<'_>,
-    subnet: &'a Subnet,
-) -> Option<&'a Reservation>
+fn ranked<'a>(names: &Held, message: &Message<'_>, subnet: &'a Subnet) -> Option<&'a Reservation>
     ensures { option_copied result ≡ ranked_reservation names.now message.now subnet.now }
 {
     if let Some(found) = by_kind(names, message, subnet, IdentityKind::Hardware) {
@@ -125,18 +121,12 @@ fn admitted<'a>(
 
 // Reports whether a reservation is for the client with bytes by a kind of identity, if there are bytes,
 // and its classes are held.
-fn counts(
-    names: &Held,
-    kind: IdentityKind,
-    bytes: Option<&[u8]>,
-    reservation: &Reservation,
-) -> bool
+fn counts(names: &Held, kind: IdentityKind, bytes: Option<&[u8]>, reservation: &Reservation) -> bool
     ensures { result
         ≡ (is_client_if kind (option_copied bytes.entry) reservation.now.identity
         && classes_admit reservation.now.classes names.now) }
 {
-    is_known_by(kind, bytes, &reservation.identity)
-        && admits(reservation.classes.as_slice(), names)
+    is_known_by(kind, bytes, &reservation.identity) && admits(reservation.classes.as_slice(), names)
 }
 
 // Reports whether the client has bytes by a kind of identity, if there are bytes.
@@ -230,8 +220,15 @@ fn if_its<'a>(message: &Message<'_>, reservation: &'a Reservation) -> Option<&'a
 fn may_be_its(message: &Message<'_>, reservation: &Reservation) -> bool
     ensures { result ≡ may_be_unseen message.now reservation.now }
 {
-    is_for_circuit(&reservation.identity)
-        || (is_for(message, &reservation.identity) && !lacks_classes(reservation))
+    is_for_circuit(&reservation.identity) || is_own_in_some(message, reservation)
+}
+
+/// Reports whether a reservation is for the client of a message by what the client itself says, in
+/// some classes.
+pub fn is_own_in_some(message: &Message<'_>, reservation: &Reservation) -> bool
+    ensures { result ≡ is_own_in_classes message.now reservation.now }
+{
+    is_for(message, &reservation.identity) && reservation.classes.as_slice().len() != 0
 }
 
 // Reports whether a client is known by its circuit.
@@ -244,8 +241,8 @@ fn is_for_circuit(identity: &Identity) -> bool
     }
 }
 
-/// Reports whether a reservation is for the client of a message by what the client itself says.
-pub fn is_for(message: &Message<'_>, identity: &Identity) -> bool
+// Reports whether a reservation is for the client of a message by what the client itself says.
+fn is_for(message: &Message<'_>, identity: &Identity) -> bool
     ensures { result ≡ is_own message.now identity.now }
 {
     match identity {
@@ -263,16 +260,6 @@ fn is_value(bytes: &Bytes, value: Option<&[u8]>) -> bool
     match value {
         Some(value) => value == bytes.as_slice(),
         None => false,
-    }
-}
-
-// Reports whether a reservation requires no class.
-fn lacks_classes(reservation: &Reservation) -> bool
-    ensures { result ≡ are_none reservation.now.classes }
-{
-    match reservation.classes.as_slice() {
-        [] => true,
-        [_, ..] => false,
     }
 }
 

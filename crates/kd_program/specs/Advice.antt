@@ -1,6 +1,6 @@
 -- What a check of a start prints about a configuration: how much it contains, and a line for each
 -- part that is probably a mistake, though a server starts with it.
-use Rattle.std.specs.Prelude.{◌≡◌, ℕ, ◌+◌, ◌-◌, ◌^◌, ◌&&◌, ◌||◌, ◌==◌, Bool, true, false, not, min, is_none, is_some, nat_le, nat_lt, if◌then◌else◌, MatchBool}
+use Rattle.std.specs.Prelude.{◌≡◌, ℕ, ◌+◌, ◌-◌, ◌^◌, ◌&&◌, ◌||◌, ◌==◌, Bool, true, false, not, min, is_some, nat_le, nat_lt, if◌then◌else◌, MatchBool}
 use Rattle.std.specs.Prelude.{List, [], ◌∷◌, ◌++◌, Option, None, Some, Result, Ok, Err, codes, decimal, length, option_map, string_bytes}
 use Rattle.std.specs.List.{find, flat_map, list_any}
 use Rattle.std.specs.Str.{bytes_eq}
@@ -75,11 +75,6 @@ class_trouble config class =
     then Some (codes ": its client-class asks for option 82, which a client that renews does not send, so it does not serve renewals\n")
     else None
 
--- the same, if a class is required
-abbrev pub required_trouble : Configuration → Option (List ℕ) → Option (List ℕ)
-required_trouble config None = None
-required_trouble config (Some class) = class_trouble config class
-
 -- the line about a subnet
 unfoldable pub subnet_text : List ℕ → Prefix → List ℕ → List ℕ
 subnet_text name prefix words =
@@ -89,6 +84,11 @@ subnet_text name prefix words =
 abbrev pub subnet_note : List ℕ → Prefix → Option (List ℕ) → List ℕ
 subnet_note name prefix None = []
 subnet_note name prefix (Some words) = subnet_text name prefix words
+
+-- the lines about the classes that a subnet requires
+abbrev pub subnet_class_notes : List ℕ → Configuration → Subnet → List ℕ
+subnet_class_notes name config s =
+    flat_map (λ class. subnet_note name s.prefix (class_trouble config class)) s.classes
 
 -- ---- the pools of a subnet
 
@@ -106,6 +106,11 @@ pool_class_text name pool words = pool_name name pool ++ words
 abbrev pub pool_class_note : List ℕ → Pool → Option (List ℕ) → List ℕ
 pool_class_note name pool None = []
 pool_class_note name pool (Some words) = pool_class_text name pool words
+
+-- the lines about the classes that a pool requires
+abbrev pub pool_class_notes : List ℕ → Configuration → Pool → List ℕ
+pool_class_notes name config pool =
+    flat_map (λ class. pool_class_note name pool (class_trouble config class)) pool.classes
 
 -- the line about an address in a pool
 unfoldable pub pool_text : List ℕ → Pool → ℕ → List ℕ → List ℕ
@@ -137,7 +142,7 @@ address_advice name server prefix pool =
 -- the lines about a pool
 abbrev pub pool_advice : List ℕ → Configuration → Prefix → Pool → List ℕ
 pool_advice name config prefix pool =
-    pool_class_note name pool (required_trouble config pool.class)
+    pool_class_notes name config pool
     ++ address_advice name config.server prefix pool
 
 -- ---- subnets that no message reaches
@@ -150,7 +155,7 @@ is_subprefix inner outer = nat_le outer.length inner.length && has_address outer
 -- for no class; and only its prefix leads to the other, which names no relay and is in no network
 abbrev pub hides : Subnet → Subnet → Bool
 hides s other =
-    is_none s.class
+    length s.classes == 0
     && (is_subprefix other.prefix s.prefix && (length other.relays == 0 && other.network == 0))
 
 -- the line about a subnet that another one hides
@@ -174,7 +179,7 @@ hidden_notes name (s ∷ subnets) = flat_map (hidden_note name s) subnets ++ hid
 -- the lines about a subnet
 abbrev pub subnet_advice : List ℕ → Configuration → Subnet → List ℕ
 subnet_advice name config s =
-    subnet_note name s.prefix (required_trouble config s.class)
+    subnet_class_notes name config s
     ++ flat_map (pool_advice name config s.prefix) s.pools
 
 -- the lines about all subnets of a configuration

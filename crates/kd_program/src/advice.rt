@@ -1,8 +1,8 @@
 ghost use Rattle.std.specs.Prelude.{◌≡◌, ◌++◌, ◌||◌, Bool, OnOk, Result, is_some, option_copied, option_map, string_bytes};
 ghost use Rattle.std.specs.List.{flat_map, list_any};
 ghost use Rattle.kd_trouble.specs.declared.troubles.SocketTrouble.{SocketTrouble};
-ghost use Rattle.kd_program.specs.Advice.{IsFoundMissing, address_advice, advice_lines, all_subnets_advice, asks_relay, class_trouble, def_asks, defined, is_absent, last_of, network_lines, pool_advice, pool_class_note, pool_class_text, pool_name, pool_note};
-ghost use Rattle.kd_program.specs.Advice.{pool_text, required_trouble, server_advice, server_text, subnet_advice, subnet_note, subnet_text, test_asks};
+ghost use Rattle.kd_program.specs.Advice.{IsFoundMissing, address_advice, advice_lines, all_subnets_advice, asks_relay, class_trouble, def_asks, defined, is_absent, last_of, network_lines, pool_advice, pool_class_note, pool_class_notes, pool_class_text, pool_name, pool_note};
+ghost use Rattle.kd_program.specs.Advice.{pool_text, server_advice, server_text, subnet_advice, subnet_class_notes, subnet_note, subnet_text, test_asks};
 
 use crate::hiding::put_hidden;
 use crate::host::Host;
@@ -11,7 +11,6 @@ use kd_config::{Config, Pool, Prefix, Subnet};
 use kd_text::{put_address, put_prefix};
 use kd_token::{Token, Verified};
 use kd_trouble::SocketTrouble;
-use kd_wire::Bytes;
 use std::alloc::AllocError;
 
 // The first address that no host can have: multicast (RFC 1112), reserved ones and broadcast.
@@ -136,25 +135,40 @@ fn put_subnet(
     ensures { OnOk result (string_bytes text.new
         ≡ string_bytes text.old ++ subnet_advice name.now config.now subnet.now) }
 {
-    put_class(text, name, config, subnet)?;
+    put_classes(text, name, config, subnet)?;
     put_pools(text, name, config, subnet)?;
     Ok(())
 }
 
-// Prints a line if nobody can be in the class that a subnet requires, or if its clients leave it as
-// they renew.
-fn put_class(
+// Prints a line for each class that a subnet requires in which nobody can be, or which its clients leave
+// as they renew.
+fn put_classes(
     text: &mut String,
     name: &str,
     config: &Config,
     subnet: &Subnet,
 ) -> Result<(), AllocError>
     ensures { OnOk result (string_bytes text.new ≡ string_bytes text.old
-        ++ subnet_note name.now subnet.now.prefix
-        (required_trouble config.now subnet.now.class)) }
+        ++ subnet_class_notes name.now config.now subnet.now) }
 {
-    match trouble_of(config, &subnet.class) {
-        Some(words) => put_subnet_line(text, name, subnet.prefix, words),
+    for class in subnet.classes.as_slice() {
+        put_class(text, name, config, subnet.prefix, class.as_slice())?;
+    }
+    Ok(())
+}
+
+fn put_class(
+    text: &mut String,
+    name: &str,
+    config: &Config,
+    prefix: Prefix,
+    class: &[u8],
+) -> Result<(), AllocError>
+    ensures { OnOk result (string_bytes text.new ≡ string_bytes text.old
+        ++ subnet_note name.now prefix (class_trouble config.now class.now)) }
+{
+    match trouble_with(config, class) {
+        Some(words) => put_subnet_line(text, name, prefix, words),
         None => Ok(()),
     }
 }
@@ -175,16 +189,7 @@ fn put_subnet_line(
     text.push_str(words)
 }
 
-// Returns, in words, what is wrong with requiring a class, if one is required.
-fn trouble_of(config: &Config, class: &Option<Bytes>) -> Option<&'static str>
-    ensures { option_copied result ≡ required_trouble config.now class.now }
-{
-    match class {
-        Some(class) => trouble_with(config, class.as_slice()),
-        None => None,
-    }
-}
-
+// Returns, in words, what is wrong with requiring a class, if something is.
 fn trouble_with(config: &Config, class: &[u8]) -> Option<&'static str>
     ensures { option_copied result ≡ class_trouble config.now class.now }
 {
@@ -279,7 +284,7 @@ fn put_pool(
     ensures { OnOk result (string_bytes text.new
         ≡ string_bytes text.old ++ pool_advice name.now config.now prefix pool.now) }
 {
-    put_pool_class(text, name, config, pool)?;
+    put_pool_classes(text, name, config, pool)?;
     put_addresses(text, name, config.server(), prefix, pool)?;
     Ok(())
 }
@@ -301,18 +306,34 @@ fn put_addresses(
     Ok(())
 }
 
-// Prints a line if nobody can be in the class that a pool requires, or if its clients leave it as
-// they renew.
-fn put_pool_class(
+// Prints a line for each class that a pool requires in which nobody can be, or which its clients leave
+// as they renew.
+fn put_pool_classes(
     text: &mut String,
     name: &str,
     config: &Config,
     pool: &Pool,
 ) -> Result<(), AllocError>
     ensures { OnOk result (string_bytes text.new ≡ string_bytes text.old
-        ++ pool_class_note name.now pool.now (required_trouble config.now pool.now.class)) }
+        ++ pool_class_notes name.now config.now pool.now) }
 {
-    match trouble_of(config, &pool.class) {
+    for class in pool.classes.as_slice() {
+        put_pool_class(text, name, config, pool, class.as_slice())?;
+    }
+    Ok(())
+}
+
+fn put_pool_class(
+    text: &mut String,
+    name: &str,
+    config: &Config,
+    pool: &Pool,
+    class: &[u8],
+) -> Result<(), AllocError>
+    ensures { OnOk result (string_bytes text.new ≡ string_bytes text.old
+        ++ pool_class_note name.now pool.now (class_trouble config.now class.now)) }
+{
+    match trouble_with(config, class) {
         Some(words) => put_pool_class_line(text, name, pool, words),
         None => Ok(()),
     }

@@ -60,7 +60,7 @@ fn put_if_hidden(
 fn is_hiding(subnet: &Subnet, other: &Subnet) -> bool
     ensures { result ≡ hides subnet.now other.now }
 {
-    subnet.class.is_none()
+    subnet.classes.as_slice().len() == 0
         && (is_inside(other.prefix, subnet.prefix)
             && (other.relays.as_slice().len() == 0 && other.network == 0))
 }

@@ -260,11 +260,7 @@ fn member_of(alloc: Global, common: &Common, subnet: Subnet) -> Result<Subnet, A
     ensures { IfOk result (λ member. member ≡ as_member common.now subnet) }
 {
     let relays = relays_of_both(alloc, subnet.relays.as_slice(), common.relays.as_slice())?;
-    let classes = classes_joined(
-        alloc,
-        subnet.classes.as_slice(),
-        common.classes.as_slice(),
-    )?;
+    let classes = classes_joined(alloc, subnet.classes.as_slice(), common.classes.as_slice())?;
     let shared = options_copied(alloc, common.options.as_slice())?;
     Ok(Subnet {
         prefix: subnet.prefix,
