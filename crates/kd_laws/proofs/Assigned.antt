@@ -15,7 +15,7 @@ use Rattle.kd_lease.specs.Choice.{Asking, Rank, address_reserved, client_reserva
 use Rattle.kd_lease.specs.Choice.Rank.{reserved as reserved_rank, own, past, asked, fresh, expired}
 use Rattle.kd_lease.proofs.Homes.{found_passes}
 use Rattle.kd_lease.proofs.Served.{find-each}
-use Rattle.kd_lease.specs.Kept.{circuit_reservation, if_for_circuit}
+use Rattle.kd_lease.specs.Kept.{if_unseen, unseen_reservation}
 use Rattle.kd_lease.specs.Laws.{EndsAreFounded, IsFounded}
 use Rattle.kd_lease.specs.Plan.{Content, Outcome}
 use Rattle.kd_lease.specs.Plan.Outcome.{planned, quiet}
@@ -26,6 +26,7 @@ use Rattle.kd_lease.specs.declared.plan.PlanKind.{PlanKind}
 use Rattle.kd_lease.specs.declared.plan.PlanKind.TheVariants as kinds
 use Rattle.kd_lease.specs.declared.rule.Ending.{Ending}
 use Rattle.kd_lease.specs.declared.rule.Ending.TheVariants as ends
+use Rattle.kd_options.specs.Message.{Seen}
 use Rattle.kd_options.specs.declared.kind.MessageType.{MessageType}
 use Rattle.kd_rows.specs.Table.{row_at}
 use Rattle.kd_rows.specs.declared.row.Row.{Row}
@@ -65,17 +66,17 @@ same_32 : (r : Option Reservation) (a : ℕ) → IfSome r ServesClient → same_
 same_32 None a is same = absurd (false≢true same)
 same_32 (Some r) a is same = client_32 r a is same
 
--- so has one that is reserved for a circuit
-circuit_32 : (rs : List Reservation) (a : ℕ) → AllByRecursion ServesClient rs → is_some (if_for_circuit (find (has_reserved a) rs)) ≡ true → a < 2 ^ 32
-circuit_32 rs a each there = by (find (has_reserved a) rs) refl (find-each ServesClient (has_reserved a) rs each) there where
-  by : (o : Option Reservation) → find (has_reserved a) rs ≡ o → IfSome o ServesClient → is_some (if_for_circuit o) ≡ true → a < 2 ^ 32
+-- so has one whose reservation no relay shows
+unseen_32 : (m : Seen) (rs : List Reservation) (a : ℕ) → AllByRecursion ServesClient rs → is_some (if_unseen m (find (has_reserved a) rs)) ≡ true → a < 2 ^ 32
+unseen_32 m rs a each there = by (find (has_reserved a) rs) refl (find-each ServesClient (has_reserved a) rs each) there where
+  by : (o : Option Reservation) → find (has_reserved a) rs ≡ o → IfSome o ServesClient → is_some (if_unseen m o) ≡ true → a < 2 ^ 32
   by None e is h = absurd (false≢true h)
   by (Some r) e is h = client_32 r a is (found_passes (has_reserved a) rs r e)
 
 -- an address that fits has 32 bits
 fitting_32 : (q : Asking) (s : Subnet) (a : ℕ) → Serves s → fitting_for q s a ≡ true → a < 2 ^ 32
 fitting_32 q s a is fits =
-    let client = client_each ServesClient q.message s is.reservations q.config in
+    let client = client_each ServesClient q.names q.message s is.reservations q.config in
     ⊎_elim
     (λ open_one. pools_32 q.names s.pools a is.pools (and_parts (pooled q.names s a) (not (reserved_anywhere q.config a)) open_one).0)
     (λ mine. same_32 (client_reservation q.config q.names q.message s) a client mine)
@@ -85,12 +86,12 @@ fitting_32 q s a is fits =
 lasting_32 : (q : Asking) (s : Subnet) (a : ℕ) → Serves s → lasting_for q s a ≡ true → a < 2 ^ 32
 lasting_32 q s a is lasts =
     let free = contained s a && not (reserved_anywhere q.config a) in
-    let circuit = is_some (circuit_reservation s a) in
+    let unseen = is_some (unseen_reservation q.message s a) in
     ⊎_elim
     (λ fits. fitting_32 q s a is fits)
-    (λ kept. ⊎_elim (λ open_one. contained_32 s.pools a is.pools (and_parts (contained s a) (not (reserved_anywhere q.config a)) open_one).0) (circuit_32 s.reservations a is.reservations)
-    (or_cases free circuit (and_parts (is_some (kept_subnet q)) (may_last q.config s a) kept).1))
-    (or_cases (fitting_for q s a) (is_some (kept_subnet q) && may_last q.config s a) lasts)
+    (λ kept. ⊎_elim (λ open_one. contained_32 s.pools a is.pools (and_parts (contained s a) (not (reserved_anywhere q.config a)) open_one).0) (unseen_32 q.message s.reservations a is.reservations)
+    (or_cases free unseen (and_parts (is_some (kept_subnet q)) (may_last q.config q.message s a) kept).1))
+    (or_cases (fitting_for q s a) (is_some (kept_subnet q) && may_last q.config q.message s a) lasts)
 
 -- what holds if its second part does
 or_second : (x y : Bool) → y ≡ true → (x || y) ≡ true

@@ -9,7 +9,7 @@ use Rattle.kd_classes.specs.Boot.{boot_or, first_boot, no_boot}
 use Rattle.kd_classes.specs.declared.boot.Boot.{Boot}
 use Rattle.kd_classes.specs.declared.definition.ClassDef.{ClassDef}
 use Rattle.kd_config.specs.Configuration.{Configuration}
-use Rattle.kd_config.specs.Networks.{network_of, part_holding, reservations_within}
+use Rattle.kd_config.specs.Networks.{network_of, part_holding, reservation_for, reservations_within}
 use Rattle.kd_config.specs.Sound.{IsBoot, IsClass, IsSound}
 use Rattle.kd_config.specs.declared.reservation.Reservation.{Reservation}
 use Rattle.kd_config.specs.declared.subnet.Subnet.{Subnet}
@@ -101,7 +101,7 @@ given_sound config s names m address sound is =
     let part = part_holding config.subnets s address in
     let there = part_serves config.subnets (all_serve config.subnets sound.subnets.together sound.subnets.each) s address is in
     let host = reservation_at config names m s address in
-    let reserved = of_reservation host (counting_each ServesClient m s is.reservations config address) in
+    let reserved = of_reservation host (counting_each ServesClient names m s is.reservations config address) in
     let held = of_classes IsBoot config.classes names (classes_sound config.classes sound.classes.each) in
     each-append IsBoot (boots_reserved host ++ class_boots config.classes names) (part.boot ∷ [])
     (each-append IsBoot (boots_reserved host) (class_boots config.classes names) reserved held)
@@ -125,8 +125,8 @@ fields_sized q sound kinds.Nak yiaddr = sized_of no_boot nothing_sound
 -- the reservations of a network give nothing either
 unbooted_within : (n : ℕ) (s : Subnet) → IsUnbooted s → AllByRecursion (λ reservation. reservation.boots ≡ []) (reservations_within n s)
 unbooted_within n s is = by (s.network == n) where
-  by : (b : Bool) → AllByRecursion (λ reservation. reservation.boots ≡ []) (if b then s.reservations else [])
-  by true = is.reserved
+  by : (b : Bool) → AllByRecursion (λ reservation. reservation.boots ≡ []) (if b then map (reservation_for s.classes) s.reservations else [])
+  by true = map-each (λ reservation. reservation.boots ≡ []) (λ reservation. reservation.boots ≡ []) (reservation_for s.classes) (λ reservation it. it) s.reservations is.reserved
   by false = tt
 
 unbooted_network : (subnets : List Subnet) → AllByRecursion IsUnbooted subnets → (n : ℕ) → IsUnbooted (network_of subnets n)
@@ -154,7 +154,7 @@ given_nothing config s names m address none is =
     let part = part_holding config.subnets s address in
     let there = at_part IsUnbooted unbooted_network config.subnets none.subnets s address is in
     let host = reservation_at config names m s address in
-    let reserved = none_reserved host (counting_each (λ reservation. reservation.boots ≡ []) m s is.reserved config address) in
+    let reserved = none_reserved host (counting_each (λ reservation. reservation.boots ≡ []) names m s is.reserved config address) in
     each-append IsNothing (boots_reserved host ++ class_boots config.classes names) (part.boot ∷ [])
     (each-append IsNothing (boots_reserved host) (class_boots config.classes names) reserved (of_classes IsNothing config.classes names none.classes))
     (there.own, tt)

@@ -8,7 +8,7 @@ use Rattle.std.proofs.lemmas.Bool.{and_parts, ltb-true}
 use Rattle.kd_config.specs.Address.{has_address, prefix_size}
 use Rattle.kd_config.specs.Apart.{lie_apart}
 use Rattle.kd_config.specs.Configuration.{Configuration}
-use Rattle.kd_config.specs.Networks.{home_of, is_part, network_at, network_count, network_of, networks_in, part_holding, pool_for, pools_within, reservations_within, value_or}
+use Rattle.kd_config.specs.Networks.{home_of, is_part, network_at, network_count, network_of, networks_in, part_holding, pool_for, pools_within, reservation_for, reservations_within, value_or}
 use Rattle.kd_config.specs.Rules.{all_obey, is_new, lies_within, may_all_reserve, may_have, may_reserve, may_stand, obeys, pool_ranges, reserved}
 use Rattle.kd_config.specs.Sound.{AreOptions, IsBoot, IsPool, IsPrefix, IsReservation, IsSound, IsSubnet}
 use Rattle.kd_config.specs.declared.pool.Pool.{Pool}
@@ -109,8 +109,8 @@ pools_of_part n s is = by (s.network == n) where
 
 clients_of_part : (n : ℕ) (s : Subnet) → Serves s → AllByRecursion ServesClient (reservations_within n s)
 clients_of_part n s is = by (s.network == n) where
-  by : (b : Bool) → AllByRecursion ServesClient (if b then s.reservations else [])
-  by true = is.reservations
+  by : (b : Bool) → AllByRecursion ServesClient (if b then map (reservation_for s.classes) s.reservations else [])
+  by true = map-each ServesClient ServesClient (reservation_for s.classes) (λ reservation it. record { options = it.options; boots = it.boots; address = it.address }) s.reservations is.reservations
   by false = tt
 
 -- a network of such subnets serves

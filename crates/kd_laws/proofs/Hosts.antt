@@ -1,17 +1,16 @@
 -- What holds of every reservation of a subnet holds of the one that counts for a message.
-use Rattle.std.proofs.Common.{◌≡◌, ℕ, Bool, true, false, ◌&&◌, Option, None, Some, if◌then◌else◌}
+use Rattle.std.proofs.Common.{◌≡◌, ℕ, Bool, true, false, ◌&&◌, List, Option, None, Some, if◌then◌else◌}
 use Rattle.std.specs.Prelude.{IfSome}
 use Rattle.std.specs.List.{AllByRecursion, find}
 use Rattle.std.specs.Option.{option_or}
 use Rattle.kd_config.specs.Configuration.{Configuration}
-use Rattle.kd_config.specs.Reservation.{has_reserved, is_client_if}
+use Rattle.kd_config.specs.Reservation.{has_reserved}
 use Rattle.kd_config.specs.declared.reservation.IdentityKind.{IdentityKind}
 use Rattle.kd_config.specs.declared.reservation.IdentityKind.TheVariants as kinds
 use Rattle.kd_config.specs.declared.reservation.Reservation.{Reservation}
 use Rattle.kd_config.specs.declared.subnet.Subnet.{Subnet}
-use Rattle.kd_lease.specs.Choice.{client_reservation, is_from, ranked_reservation, reservation_by}
-use Rattle.kd_lease.specs.Client.{client_bytes}
-use Rattle.kd_lease.specs.Kept.{circuit_reservation, if_for_circuit, is_behind_circuit, renews_alone, reservation_at}
+use Rattle.kd_lease.specs.Choice.{client_reservation, counts_by, is_from, ranked_reservation, reservation_by}
+use Rattle.kd_lease.specs.Kept.{if_unseen, may_be_unseen, renews_alone, reservation_at, unseen_reservation}
 use Rattle.kd_options.specs.Message.{Seen}
 use Rattle.kd_lease.proofs.Served.{find-each}
 
@@ -19,9 +18,9 @@ or_each : (P : Reservation → Type 0) (x y : Option Reservation) → IfSome x P
 or_each P None y hx hy = hy
 or_each P (Some r) y hx hy = hx
 
-module _ (P : Reservation → Type 0) (m : Seen) (s : Subnet) (each : AllByRecursion P s.reservations) where
+module _ (P : Reservation → Type 0) (names : List (List ℕ)) (m : Seen) (s : Subnet) (each : AllByRecursion P s.reservations) where
   by_kind : (kind : IdentityKind) → IfSome (reservation_by names m s kind) P
-  by_kind kind = find-each P (λ r. is_client_if kind (client_bytes m kind) r.identity) s.reservations each
+  by_kind kind = find-each P (counts_by names m kind) s.reservations each
 
   ranked_each : IfSome (ranked_reservation names m s) P
   ranked_each =
@@ -36,12 +35,12 @@ module _ (P : Reservation → Type 0) (m : Seen) (s : Subnet) (each : AllByRecur
     by true = ranked_each
     by false = find-each P (λ r. is_from m r.identity) s.reservations each
 
-  -- and of that of an address for a circuit
-  pub circuit_each : (a : ℕ) → IfSome (circuit_reservation s a) P
-  circuit_each a = by (find (has_reserved a) s.reservations) (find-each P (has_reserved a) s.reservations each) where
-    by : (o : Option Reservation) → IfSome o P → IfSome (if_for_circuit o) P
+  -- and of that of an address that no relay shows
+  pub unseen_each : (a : ℕ) → IfSome (unseen_reservation m s a) P
+  unseen_each a = by (find (has_reserved a) s.reservations) (find-each P (has_reserved a) s.reservations each) where
+    by : (o : Option Reservation) → IfSome o P → IfSome (if_unseen m o) P
     by None h = tt
-    by (Some r) h = this (is_behind_circuit r.identity) where
+    by (Some r) h = this (may_be_unseen m r) where
       this : (b : Bool) → IfSome (if b then Some r else None) P
       this true = h
       this false = tt
@@ -49,8 +48,8 @@ module _ (P : Reservation → Type 0) (m : Seen) (s : Subnet) (each : AllByRecur
   -- so it holds of the one that counts for the reply with an address
   pub counting_each : (config : Configuration) (a : ℕ) → IfSome (reservation_at config names m s a) P
   counting_each config a =
-      or_each P (client_reservation config names m s) (if config.extensions.keeps_leases && renews_alone m a then circuit_reservation s a else None) (client_each config)
+      or_each P (client_reservation config names m s) (if config.extensions.keeps_leases && renews_alone m a then unseen_reservation m s a else None) (client_each config)
       (by (config.extensions.keeps_leases && renews_alone m a)) where
-        by : (b : Bool) → IfSome (if b then circuit_reservation s a else None) P
-        by true = circuit_each a
+        by : (b : Bool) → IfSome (if b then unseen_reservation m s a else None) P
+        by true = unseen_each a
         by false = tt

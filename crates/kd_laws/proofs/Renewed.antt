@@ -6,12 +6,14 @@ use Rattle.std.proofs.lemmas.Bool.{and_from, and_parts, eqb-true, false≢true, 
 use Rattle.std.proofs.lemmas.Option.{none-some, same_Some}
 use Rattle.kd_config.specs.Address.{has_address}
 use Rattle.kd_config.specs.Networks.{covers, home_of}
+use Rattle.kd_config.specs.Reservation.{has_reserved}
+use Rattle.kd_config.specs.declared.reservation.Reservation.{Reservation}
 use Rattle.kd_config.specs.declared.subnet.Subnet.{Subnet}
 use Rattle.kd_lease.proofs.Homes.{found, found_passes, home_contains, home_covers, none_among, weaker}
 use Rattle.kd_lease.proofs.Records.{known_there}
 use Rattle.kd_lease.specs.Choice.{Asking, contained, fitting_for, has_such, live_row, reserved_anywhere, reserved_in}
 use Rattle.kd_lease.specs.Client.{kind_of, named_server, requested_address}
-use Rattle.kd_lease.specs.Kept.{bound_state, ciaddr_in, circuit_reservation, has_to_keep, is_leased_in, passes, renews_lease, subnet_keeping}
+use Rattle.kd_lease.specs.Kept.{bound_state, ciaddr_in, has_to_keep, if_for_circuit, if_unseen, is_behind_circuit, is_leased_in, is_own_in_classes, passes, renews_lease, subnet_keeping, unseen_reservation}
 use Rattle.kd_lease.specs.Laws.{EndsDecide}
 use Rattle.kd_lease.specs.Plan.{Outcome}
 use Rattle.kd_lease.specs.Rules.{Does, IsAbout, IsReplyOf, Makes, checks_in, client_has, ending, ends_by, fails, holds_at, kept_subnet, known_in, lasting_for, leased_row, may_last, other_server, passes_in, rule_by, rule_of, serving_subnet}
@@ -24,10 +26,11 @@ use Rattle.kd_lease.specs.declared.rule.Ending.TheVariants as ends
 use Rattle.kd_lease.specs.declared.rule.Rule.{Rule}
 use Rattle.kd_lease.specs.declared.rule.Rule.TheVariants as rules
 use Rattle.kd_options.specs.Kind.{type_number}
+use Rattle.kd_options.specs.Message.{Seen}
 use Rattle.kd_options.specs.declared.kind.MessageType.TheVariants as types
 use Rattle.kd_rows.specs.Table.{belongs_to, row_at}
 use Rattle.kd_rows.specs.declared.row.Row.{Row}
-use Rattle.kd_laws.specs.Renewals.{CircuitsKeepLeases, RenewalsAreKept, is_pooled_among}
+use Rattle.kd_laws.specs.Renewals.{CircuitsKeepLeases, RenewalsAreKept, ReservationsKeepLeases, is_pooled_among}
 
 -- ---- the message
 
@@ -76,9 +79,9 @@ keeper_has q s there =
     and_parts (has_address s.prefix q.message.header.ciaddr) (contained s q.message.header.ciaddr || reserved_in q.message.header.ciaddr s) (found_passes (has_to_keep q.message.header.ciaddr) q.config.subnets s there)
 
 -- if the address is not reserved, the lease may last there
-free_lasts : (q : Asking) (s : Subnet) → find (has_to_keep q.message.header.ciaddr) q.config.subnets ≡ Some s → reserved_anywhere q.config q.message.header.ciaddr ≡ false → may_last q.config (home_of q.config.subnets s) q.message.header.ciaddr ≡ true
+free_lasts : (q : Asking) (s : Subnet) → find (has_to_keep q.message.header.ciaddr) q.config.subnets ≡ Some s → reserved_anywhere q.config q.message.header.ciaddr ≡ false → may_last q.config q.message (home_of q.config.subnets s) q.message.header.ciaddr ≡ true
 free_lasts q s there free =
-    or_left (contained home q.message.header.ciaddr && not (reserved_anywhere q.config q.message.header.ciaddr)) (is_some (circuit_reservation home q.message.header.ciaddr))
+    or_left (contained home q.message.header.ciaddr && not (reserved_anywhere q.config q.message.header.ciaddr)) (is_some (unseen_reservation q.message home q.message.header.ciaddr))
     (and_from (contained home q.message.header.ciaddr) (not (reserved_anywhere q.config q.message.header.ciaddr)) (home_contains q.config.subnets (has_to_keep q.message.header.ciaddr) s q.message.header.ciaddr there in_pool) (ap not free)) where
       home : Subnet
       home = home_of q.config.subnets s
@@ -88,7 +91,7 @@ free_lasts q s there free =
           ⊎_elim (λ it. it) (λ reserved. absurd (false≢true (sym (none_among (has_to_keep q.message.header.ciaddr) (reserved_in q.message.header.ciaddr) q.config.subnets s there free) ∙ reserved)))
           (or_cases (contained s q.message.header.ciaddr) (reserved_in q.message.header.ciaddr s) (keeper_has q s there).1)
 
-module _ (q : Asking) (keeps : q.config.extensions.keeps_leases ≡ true) (renews : renews_lease q.rows q.message q.now q.client ≡ true) (first : (s : Subnet) × (find (has_to_keep q.message.header.ciaddr) q.config.subnets ≡ Some s)) (may : may_last q.config (home_of q.config.subnets first.0) q.message.header.ciaddr ≡ true) where
+module _ (q : Asking) (keeps : q.config.extensions.keeps_leases ≡ true) (renews : renews_lease q.rows q.message q.now q.client ≡ true) (first : (s : Subnet) × (find (has_to_keep q.message.header.ciaddr) q.config.subnets ≡ Some s)) (may : may_last q.config q.message (home_of q.config.subnets first.0) q.message.header.ciaddr ≡ true) where
   a : ℕ
   a = q.message.header.ciaddr
 
@@ -128,8 +131,8 @@ module _ (q : Asking) (keeps : q.config.extensions.keeps_leases ≡ true) (renew
   lasts : lasting_for q its_home a ≡ true
   unfolding its_home a
   lasts =
-      or_right (fitting_for q (home_of q.config.subnets first.0) q.message.header.ciaddr) (is_some (kept_subnet q) && may_last q.config (home_of q.config.subnets first.0) q.message.header.ciaddr)
-      (and_from (is_some (kept_subnet q)) (may_last q.config (home_of q.config.subnets first.0) q.message.header.ciaddr) (ap is_some kept) may)
+      or_right (fitting_for q (home_of q.config.subnets first.0) q.message.header.ciaddr) (is_some (kept_subnet q) && may_last q.config q.message (home_of q.config.subnets first.0) q.message.header.ciaddr)
+      (and_from (is_some (kept_subnet q)) (may_last q.config q.message (home_of q.config.subnets first.0) q.message.header.ciaddr) (ap is_some kept) may)
 
   server : holds_at q (Some a) checks.Server ≡ true
   server = ap (λ (o : Option ℕ). not (other_server q.config.server o)) unnamed
@@ -180,11 +183,24 @@ kept_there subnets a s is = by (find (has_to_keep a) subnets) refl is where
   by None e h = absurd (none-some s h)
   by (Some t) e h = (t, e, same_Some (home_of subnets t) s h)
 
--- also behind a circuit
-pub circuits_kept : EndsDecide → CircuitsKeepLeases
-circuits_kept decide q s set outcome keeps renews there reserved does =
+-- also where its reservation is one that no relay shows
+pub reservations_kept : EndsDecide → ReservationsKeepLeases
+reservations_kept decide q s set outcome keeps renews there reserved does =
     let a = q.message.header.ciaddr in
     let first = kept_there q.config.subnets a s there in
-    let some : is_some (circuit_reservation (home_of q.config.subnets first.0) a) ≡ true = ap (λ (t : Subnet). is_some (circuit_reservation t a)) first.2 ∙ reserved in
+    let some : is_some (unseen_reservation q.message (home_of q.config.subnets first.0) a) ≡ true = ap (λ (t : Subnet). is_some (unseen_reservation q.message t a)) first.2 ∙ reserved in
     begins_anew q keeps renews (first.0, first.1)
-    (or_right (contained (home_of q.config.subnets first.0) a && not (reserved_anywhere q.config a)) (is_some (circuit_reservation (home_of q.config.subnets first.0) a)) some) decide set outcome does
+    (or_right (contained (home_of q.config.subnets first.0) a && not (reserved_anywhere q.config a)) (is_some (unseen_reservation q.message (home_of q.config.subnets first.0) a)) some) decide set outcome does
+
+-- one for a circuit is of this kind
+behind_unseen : (m : Seen) (o : Option Reservation) → is_some (if_for_circuit o) ≡ true → is_some (if_unseen m o) ≡ true
+behind_unseen m None h = h
+behind_unseen m (Some r) h = by (is_behind_circuit r.identity) h where
+  by : (b : Bool) → is_some (if b then Some r else None) ≡ true → is_some (if b || is_own_in_classes m r then Some r else None) ≡ true
+  by true h = refl
+  by false h = absurd (false≢true h)
+
+-- so also behind a circuit
+pub circuits_kept : EndsDecide → CircuitsKeepLeases
+circuits_kept decide q s set outcome keeps renews there reserved does =
+    reservations_kept decide q s set outcome keeps renews there (behind_unseen q.message (find (has_reserved q.message.header.ciaddr) s.reservations) reserved) does

@@ -76,7 +76,7 @@ given_free config s names m address sound is =
     let is_there = part_serves config.subnets (all_serve config.subnets sound.subnets.together sound.subnets.each) s address is in
     let classes = class_options config.classes names in
     let has_it : Pool → Bool = λ p. has p.range address in
-    let reserved = reservation_free (reservation_at config names m s address) (counting_each ServesClient m s is.reservations config address) in
+    let reserved = reservation_free (reservation_at config names m s address) (counting_each ServesClient names m s is.reservations config address) in
     let pooled = pool_free (find has_it s.pools) (find-each ServesPool has_it s.pools is.pools) in
     each-append IsFree (own ++ pool ++ part.options ++ part.shared ++ classes ++ config.options) (mask_option part.prefix ∷ [])
     (each-append IsFree (own ++ pool ++ part.options ++ part.shared ++ classes) config.options

@@ -5,7 +5,7 @@ use Rattle.std.specs.List.{list_any}
 use Rattle.kd_config.specs.Address.{has_address}
 use Rattle.kd_config.specs.declared.subnet.Subnet.{Subnet}
 use Rattle.kd_lease.specs.Choice.{Asking, contained, reserved_anywhere}
-use Rattle.kd_lease.specs.Kept.{circuit_reservation, renews_lease, subnet_keeping}
+use Rattle.kd_lease.specs.Kept.{circuit_reservation, renews_lease, subnet_keeping, unseen_reservation}
 use Rattle.kd_lease.specs.Plan.{Outcome}
 use Rattle.kd_lease.specs.Rules.{Does, IsReplyOf, leased_row}
 use Rattle.kd_lease.specs.declared.plan.PlanKind.TheVariants as kinds
@@ -37,5 +37,18 @@ CircuitsKeepLeases =
     → renews_lease q.rows q.message q.now q.client ≡ true
     → subnet_keeping q.config.subnets q.message.header.ciaddr ≡ Some s
     → is_some (circuit_reservation s q.message.header.ciaddr) ≡ true → Does q set outcome
+    → (set ≡ Some (leased_row q q.message.header.ciaddr))
+    × IsReplyOf kinds.Ack q.message.header.ciaddr outcome
+
+-- the same, if that subnet reserves the address for a circuit, or for the client in some classes, which
+-- it may have by what only a relay says
+abbrev pub ReservationsKeepLeases : Type 0
+ReservationsKeepLeases =
+    (q : Asking) (s : Subnet) (set : Option Row) (outcome : Outcome)
+    → q.config.extensions.keeps_leases ≡ true
+    → renews_lease q.rows q.message q.now q.client ≡ true
+    → subnet_keeping q.config.subnets q.message.header.ciaddr ≡ Some s
+    → is_some (unseen_reservation q.message s q.message.header.ciaddr) ≡ true
+    → Does q set outcome
     → (set ≡ Some (leased_row q q.message.header.ciaddr))
     × IsReplyOf kinds.Ack q.message.header.ciaddr outcome
