@@ -122,7 +122,7 @@ reservation_listed m s = find_by m s.reservations
 
 -- ---- those that count
 
-counted_so : IdentityKind → Option (List ℕ) → List (List ℕ) → Reservation → Bool
+abbrev counted_so : IdentityKind → Option (List ℕ) → List (List ℕ) → Reservation → Bool
 counted_so kind bytes names r = is_client_if kind bytes r.identity && classes_admit r.classes names
 
 -- where none is for the client, none counts
