@@ -84,7 +84,6 @@ fn ranked<'a>(names: &Held, message: &Message<'_>, subnet: &'a Subnet) -> Option
 
 // Returns the first reservation for the client of a message by a kind of identity whose classes are
 // held. Most often it is the first for the client, which takes no search.
-#[tactic(auto, using(crate::proofs::Reserved::none_counts, crate::proofs::Reserved::first_counts))]
 fn by_kind<'a>(
     names: &Held,
     message: &Message<'_>,
@@ -94,11 +93,10 @@ fn by_kind<'a>(
     ensures { option_copied result ≡ reservation_by names.now message.now subnet.now kind }
 {
     let bytes = identity_bytes(message, kind);
-    let first = subnet.reservations.of_kind(kind, bytes)?;
-    if admits(first.classes.as_slice(), names) {
-        Some(first)
-    } else {
-        admitted(names, kind, bytes, subnet.reservations.as_slice())
+    match subnet.reservations.of_kind(kind, bytes) {
+        Some(first) if admits(first.classes.as_slice(), names) => Some(first),
+        Some(_) => admitted(names, kind, bytes, subnet.reservations.as_slice()),
+        None => None,
     }
 }
 
