@@ -54,10 +54,11 @@ fn subnet_of_lists(
     let reservations = entries_of(alloc, value, at, "reservations", 4096, &ReservationReader)?;
     let options = options_of(alloc, value, at)?;
     let reservations = Reservations::own(alloc, reservations.into_vec())?;
+    let classes = classes_of(alloc, class)?;
     Ok(Subnet {
         prefix,
         relays: Entries::own(Vec::new(alloc)),
-        classes: classes_of(alloc, class)?,
+        classes,
         pools,
         reservations,
         options,

@@ -182,9 +182,10 @@ fn common_of(
     let relays = relays_in(alloc, network, at)?;
     let class = text_or_none(alloc, network, at, "client-class")?;
     let options = options_of(alloc, network, at, part_scope(known))?;
+    let classes = classes_of(alloc, non_empty(class))?;
     Ok(Common {
         relays,
-        classes: classes_of(alloc, non_empty(class))?,
+        classes,
         options,
     })
 }

@@ -47,9 +47,10 @@ impl<'a> EntryReader for PoolReader<'a> {
             return Err(unknown(alloc, at, "client-class"));
         }
         let options = options_of(alloc, value, at, part_scope(self.known))?;
+        let classes = classes_of(alloc, non_empty(class))?;
         Ok(Pool {
             range,
-            classes: classes_of(alloc, non_empty(class))?,
+            classes,
             options,
         })
     }

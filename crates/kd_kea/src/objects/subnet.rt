@@ -207,10 +207,11 @@ fn subnet_of_lists(
     )?;
     let options = options_of(alloc, value, at, part_scope(known))?;
     let reservations = Reservations::own(alloc, reservations.into_vec())?;
+    let classes = classes_of(alloc, class)?;
     Ok(Subnet {
         prefix,
         relays,
-        classes: classes_of(alloc, class)?,
+        classes,
         pools,
         reservations,
         options,
