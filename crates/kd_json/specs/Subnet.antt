@@ -25,16 +25,16 @@ has_subnet_keys d =
 unfoldable pub subnet_prefix : Data → Option Prefix
 subnet_prefix d = as_str d >>= prefix_spelled
 
--- the subnet of a prefix and a class with the lists in a value
-unfoldable pub subnet_with : Prefix → Option (List ℕ) → Data → Option Subnet
-subnet_with prefix class d = do
+-- the subnet of a prefix and classes with the lists in a value
+unfoldable pub subnet_with : Prefix → List (List ℕ) → Data → Option Subnet
+subnet_with prefix classes d = do
   pools ← list_of 64 pool_of (get (codes "pools") d)
   reservations ← list_of 4096 reservation_of (get (codes "reservations") d)
   options ← option_list_in (get (codes "option-data") d)
   Some (record {
     prefix = prefix;
     relays = [];
-    classes = class_list class;
+    classes = classes;
     pools = pools;
     reservations = reservations;
     options = options;
@@ -51,4 +51,4 @@ subnet_of d = do
   _ ← number_if_given 1 4294967294 1 (get (codes "id") d)
   prefix ← get (codes "subnet") d >>= subnet_prefix
   class ← text_if_given (get (codes "client-class") d)
-  subnet_with prefix class d
+  subnet_with prefix (class_list class) d

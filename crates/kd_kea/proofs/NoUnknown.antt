@@ -9,6 +9,7 @@ use Rattle.kd_config.proofs.Tests.{both_passed, some_is}
 use Rattle.kd_config.specs.declared.reservation.IdentityKind.{IdentityKind}
 use Rattle.kd_config.specs.Address.{has_address}
 use Rattle.kd_config.specs.declared.prefix.Prefix.{Prefix}
+use Rattle.kd_config.specs.Classed.{class_list}
 use Rattle.kd_config.specs.declared.subnet.Subnet.{Subnet}
 use Rattle.kd_classes.specs.Boot.{boot_or}
 use Rattle.kd_classes.specs.declared.boot.Boot.{Boot}
@@ -314,9 +315,9 @@ record ListsPass (known : List Definition) (kinds : HostKinds) (bare : Bool) (pa
   pools : have_refused (listed_notes 64 (pool_notes known) (codes "pools") path d) ≡ false
   hosts : have_refused (listed_notes 4096 (host_notes known kinds bare) (codes "reservations") path d) ≡ false
 
-subnet_lists_pass : (known : List Definition) (within : Above) (prefix : Prefix) (class : Option (List ℕ)) (path : List ℕ) (d : Data) (subnet : Subnet) → kea_subnet_with known within prefix class d ≡ Some subnet → ListsPass known within.kinds within.bare path d
+subnet_lists_pass : (known : List Definition) (within : Above) (prefix : Prefix) (classes : List (List ℕ)) (path : List ℕ) (d : Data) (subnet : Subnet) → kea_subnet_with known within prefix classes d ≡ Some subnet → ListsPass known within.kinds within.bare path d
 unfolding kea_subnet_with
-subnet_lists_pass known within prefix class path d subnet e =
+subnet_lists_pass known within prefix classes path d subnet e =
     let relays = came_from (relays_of (get (codes "relay") d)) _ subnet e in
     let parts = came_from (list_of 64 (kea_pool known) (get (codes "pools") d) >>= parts_of_all) _ subnet relays.gives in
     let pools = came_from (list_of 64 (kea_pool known) (get (codes "pools") d)) parts_of_all parts.first parts.is in
@@ -330,10 +331,10 @@ subnet_lists_pass known within prefix class path d subnet e =
       hosts = listed_pass 4096 (kea_reservation known within.kinds within.bare) (host_notes known within.kinds within.bare) (host_pass known within.kinds within.bare) (codes "reservations") path d hosts.first hosts.is;
     }
 
-beside_pass : (given : Option Bool) (kinds : HostKinds) (other bare : Bool) (known : List Definition) (within : Above) (prefix : Prefix) (class : Option (List ℕ)) (path : List ℕ) (d : Data) (subnet : Subnet) → given ≡ Some other → flag_or other (get (codes "reservations-out-of-pool") d) ≡ Some within.outside → within.kinds ≡ kinds → within.bare ≡ has_bare_names bare d → kea_subnet_with known within prefix class d ≡ Some subnet
+beside_pass : (given : Option Bool) (kinds : HostKinds) (other bare : Bool) (known : List Definition) (within : Above) (prefix : Prefix) (classes : List (List ℕ)) (path : List ℕ) (d : Data) (subnet : Subnet) → given ≡ Some other → flag_or other (get (codes "reservations-out-of-pool") d) ≡ Some within.outside → within.kinds ≡ kinds → within.bare ≡ has_bare_names bare d → kea_subnet_with known within prefix classes d ≡ Some subnet
     → have_refused (beside_note given kinds bare known path d) ≡ false
 unfolding kea_subnet_with kea_beside
-beside_pass given kinds other bare known within prefix class path d subnet e f same_kinds same_bare g =
+beside_pass given kinds other bare known within prefix classes path d subnet e f same_kinds same_bare g =
     let relays = came_from (relays_of (get (codes "relay") d)) _ subnet g in
     let pools = came_from (list_of 64 (kea_pool known) (get (codes "pools") d) >>= parts_of_all) _ subnet relays.gives in
     let hosts = came_from (list_of 4096 (kea_reservation known within.kinds within.bare) (get (codes "reservations") d)) _ subnet pools.gives in
@@ -379,7 +380,7 @@ subnet_pass above around fits known d subnet path e =
     let bare = has_bare_names around.bare d in
     let same_kinds = inside.kinds ∙ sym fits.kinds in
     let same_bare = inside.bare ∙ ap (λ (b : Bool). has_bare_names b d) (sym fits.bare) in
-    let listed = subnet_lists_pass known within.first prefix.first (unless_empty class.first) path d subnet within.gives in
+    let listed = subnet_lists_pass known within.first prefix.first (class_list (unless_empty class.first)) path d subnet within.gives in
     let lists = subst (λ (b : Bool). ListsPass known around.kinds b path d) same_bare (subst (λ (k : HostKinds). ListsPass known k within.first.bare path d) same_kinds listed) in
     let keyed = own_notes subnet_keys path d in
     let values = subnet_values around path d in

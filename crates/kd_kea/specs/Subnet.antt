@@ -63,16 +63,16 @@ above_within above d = do
   boot ← kea_boot d
   Some (record { server = above.server; times = above.times; keys = keys; by_class = above.by_class; outside = outside; kinds = above.kinds; bare = has_bare_names above.bare d; policy = above.policy; boot = boot_or boot above.boot })
 
--- the subnet of a prefix and a class with the lists in a value, by these definitions of options,
+-- the subnet of a prefix and classes with the lists in a value, by these definitions of options,
 -- where this holds in it. It is in no network
-unfoldable pub kea_subnet_with : List Definition → Above → Prefix → Option (List ℕ) → Data → Option Subnet
-kea_subnet_with known within prefix class d = do
+unfoldable pub kea_subnet_with : List Definition → Above → Prefix → List (List ℕ) → Data → Option Subnet
+kea_subnet_with known within prefix classes d = do
   relays ← relays_of (get (codes "relay") d)
   pools ← list_of 64 (kea_pool known) (get (codes "pools") d) >>= parts_of_all
   reservations ← list_of 4096 (kea_reservation known within.kinds within.bare) (get (codes "reservations") d)
   _ ← must (stand_beside within.outside pools reservations)
   options ← kea_options false known (get (codes "option-data") d)
-  Some (record { prefix = prefix; relays = relays; classes = class_list class; pools = pools; reservations = reservations; options = options; network = 0; shared = []; boot = within.boot; term = term_unless_alike within })
+  Some (record { prefix = prefix; relays = relays; classes = classes; pools = pools; reservations = reservations; options = options; network = 0; shared = []; boot = within.boot; term = term_unless_alike within })
 
 -- a value has the keys of a subnet; its `id` is checked but not used
 unfoldable pub has_subnet_form : Above → Data → Option (Unit {0})
@@ -91,4 +91,4 @@ kea_subnet above known d = do
   _ ← must (is_at_server above.server prefix (get (codes "interface") d))
   class ← text_if_given (get (codes "client-class") d)
   within ← above_within above d
-  kea_subnet_with known within prefix (unless_empty class) d
+  kea_subnet_with known within prefix (class_list (unless_empty class)) d

@@ -35,26 +35,26 @@ impl EntryReader for SubnetReader {
             return Err(bad_value(alloc, at, "subnet"));
         };
         let class = text_or_none(alloc, value, at, "client-class")?;
-        subnet_of_lists(alloc, value, at, prefix, class)
+        let classes = classes_of(alloc, class)?;
+        subnet_of_lists(alloc, value, at, prefix, classes)
     }
 }
 
-// Builds the subnet of a prefix and a class with the lists in a value.
+// Builds the subnet of a prefix and classes with the lists in a value.
 #[tactic(auto, unfolding(crate::specs::Subnet::subnet_with))]
 fn subnet_of_lists(
     alloc: Global,
     value: &Value,
     at: &Place<'_>,
     prefix: Prefix,
-    class: Option<Bytes>,
+    classes: Entries<Bytes>,
 ) -> Result<Subnet, SettingsFault>
-    ensures { Means Memory result (subnet_with prefix class (view value.now)) }
+    ensures { Means Memory result (subnet_with prefix classes (view value.now)) }
 {
     let pools = entries_of(alloc, value, at, "pools", 64, &PoolReader)?;
     let reservations = entries_of(alloc, value, at, "reservations", 4096, &ReservationReader)?;
     let options = options_of(alloc, value, at)?;
     let reservations = Reservations::own(alloc, reservations.into_vec())?;
-    let classes = classes_of(alloc, class)?;
     Ok(Subnet {
         prefix,
         relays: Entries::own(Vec::new(alloc)),

@@ -88,7 +88,8 @@ impl<'a> EntryReader for SubnetReader<'a> {
         let above = above_in(alloc, value, at, self.above)?;
         let known = self.known;
         let reader = SubnetReader { above, known };
-        subnet_of_lists(alloc, value, at, reader, prefix, non_empty(class))
+        let classes = classes_of(alloc, non_empty(class))?;
+        subnet_of_lists(alloc, value, at, reader, prefix, classes)
     }
 }
 
@@ -175,7 +176,7 @@ pub(crate) fn above_in(
     })
 }
 
-// Builds the subnet of a prefix and a class with the lists in a value, by what holds in it and the
+// Builds the subnet of a prefix and classes with the lists in a value, by what holds in it and the
 // definitions of options. It is in no network.
 #[tactic(auto, unfolding(crate::specs::Subnet::kea_subnet_with))]
 fn subnet_of_lists(
@@ -184,10 +185,11 @@ fn subnet_of_lists(
     at: &Place<'_>,
     reader: SubnetReader<'_>,
     prefix: Prefix,
-    class: Option<Bytes>,
+    classes: Entries<Bytes>,
 ) -> Result<Subnet, SettingsFault>
     ensures { Means Memory result
-        (kea_subnet_with reader.entry.known.now reader.entry.above prefix class (view value.now)) }
+        (kea_subnet_with reader.entry.known.now reader.entry.above prefix classes
+        (view value.now)) }
 {
     let SubnetReader { above, known } = reader;
     let hosts = ReservationReader {
@@ -207,7 +209,6 @@ fn subnet_of_lists(
     )?;
     let options = options_of(alloc, value, at, part_scope(known))?;
     let reservations = Reservations::own(alloc, reservations.into_vec())?;
-    let classes = classes_of(alloc, class)?;
     Ok(Subnet {
         prefix,
         relays,
