@@ -7,6 +7,7 @@ pub mod Held
 pub mod Homes
 pub mod Least
 pub mod Lifetimes
+pub mod Members
 pub mod Newest
 pub mod Passing
 pub mod Places

@@ -1,9 +1,10 @@
-ghost use Rattle.std.specs.Prelude.{◌≡◌, ◌∷◌, []};
+ghost use Rattle.std.specs.Prelude.{◌≡◌, ◌∷◌, [], Some};
 ghost use Rattle.std.specs.Option.{option_copied};
-ghost use Rattle.kd_classes.specs.Boot.{first_boot};
-ghost use Rattle.kd_lease.specs.Booting.{boots_given, class_boots, fields_in, boots_reserved, fields_of, reply_fields};
+ghost use Rattle.kd_classes.specs.Boot.{boot_or, first_boot};
+ghost use Rattle.kd_lease.specs.Booting.{boots_given, class_boots, fields_in, boots_reserved, fields_of, reply_fields, reserved_boots};
 ghost use Rattle.kd_lease.specs.Rules.{asking, serving_subnet};
 
+use crate::parts::boot_with;
 use crate::plan::PlanKind;
 use crate::question::Question;
 use crate::reservation::reservation_for;
@@ -41,15 +42,25 @@ fn fields_at(question: &Question<'_>, address: u32) -> BootFields
     ensures { let q = asking question.now in result ≡ fields_in q (serving_subnet q) address }
 {
     match question.subnet {
-        Some(subnet) => fields_from(boot_given(
-            question.config,
-            question.names,
-            subnet,
-            question.message,
-            address,
-        )),
+        Some(subnet) => fields_from(boot_in(question, subnet, address)),
         None => fields_from(Boot::none()),
     }
+}
+
+// Returns what is given to the boot fields at an address of the subnet that serves a message.
+#[tactic(auto, unfolding(crate::specs::Booting::boots_given), using(crate::proofs::Boots::three_boots))]
+fn boot_in(question: &Question<'_>, subnet: &Subnet, address: u32) -> Boot
+    requires { serving_subnet (asking question.now) ≡ Some subnet.now }
+    ensures { let q = asking question.now in
+        result ≡ first_boot (boots_given q.config subnet.now q.names q.message address) }
+{
+    let Question {
+        config,
+        names,
+        message,
+        ..
+    } = *question;
+    boot_of_client(config, names, subnet, message, address).or(boot_with(question, subnet, address))
 }
 
 // Returns the fields of a reply with these values.
@@ -78,9 +89,24 @@ pub fn boot_given(
     ensures { result
         ≡ first_boot (boots_given config.now subnet.now names.now message.now address) }
 {
-    boot_of_host(reservation_for(config, names, message, subnet, address))
-        .or(class_boot(config.classes(), names))
-        .or(config.boot_at(subnet, address))
+    boot_of_client(config, names, subnet, message, address).or(config.boot_at(subnet, address))
+}
+
+// Returns what the reservation and the classes of the client give, which comes before what the subnet
+// gives.
+fn boot_of_client(
+    config: &Config,
+    names: &Held,
+    subnet: &Subnet,
+    message: &Message<'_>,
+    address: u32,
+) -> Boot
+    ensures { result
+        ≡ boot_or (first_boot (reserved_boots config.now names.now message.now subnet.now address))
+        (first_boot (class_boots config.now.classes names.now)) }
+{
+    let reserved = boot_of_host(reservation_for(config, names, message, subnet, address));
+    reserved.or(class_boot(config.classes(), names))
 }
 
 // Returns what a reservation gives, if there is one.

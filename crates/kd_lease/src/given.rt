@@ -3,37 +3,44 @@ ghost use Rattle.kd_classes.specs.declared.option_list.OptionData.{OptionData};
 ghost use Rattle.kd_lease.specs.Client.{wants_option};
 ghost use Rattle.kd_lease.specs.Given.{class_options, configured, configured_options, given, options_of_pool, prefix_mask};
 ghost use Rattle.kd_lease.specs.Plan.{option_of_item};
+ghost use Rattle.kd_lease.specs.Rules.{asking, serving_subnet};
 ghost use Rattle.kd_lease.specs.Valuing.{HasValues, HaveCodes};
 ghost use Rattle.kd_wire.specs.Area.{IsCode};
 
 use crate::client::asks_for;
+use crate::parts::part_with;
+use crate::question::Question;
 use crate::reply::put_optional;
 use crate::reservation::reservation_options;
 use crate::subnet::pool_options;
 use crate::values::{Coded, Values};
 use kd_classes::{ClassDef, Classes, OptionData};
-use kd_config::{Config, Prefix, Subnet};
+use kd_config::{Prefix, Subnet};
 use kd_machine::Held;
 use kd_options::{Item, Message};
 use std::alloc::{AllocError, Global};
 
-// Appends the options that the configuration gives, at an address of a subnet, to the client of a
-// message, which is in the classes with these names; only those that the client asks for or that
-// are sent to all.
+// Appends the options that the configuration gives, at an address of the subnet that serves a message,
+// to the client; only those that the client asks for or that are sent to all.
 pub(crate) fn put_given(
     alloc: Global,
     list: &mut Vec<Item>,
-    config: &Config,
-    names: &Held,
+    question: &Question<'_>,
     subnet: &Subnet,
-    message: &Message<'_>,
     address: u32,
 ) -> Result<(), AllocError>
-    ensures { OnOk result (map option_of_item list.new.items ≡ map option_of_item list.old.items
-        ++ configured_options message.now
-        (given config.now subnet.now names.now message.now address)) }
+    requires { serving_subnet (asking question.now) ≡ Some subnet.now }
+    ensures { let q = asking question.now in
+        OnOk result (map option_of_item list.new.items ≡ map option_of_item list.old.items
+        ++ configured_options q.message (given q.config subnet.now q.names q.message address)) }
 {
-    let part = config.member_with(subnet, address);
+    let Question {
+        config,
+        names,
+        message,
+        ..
+    } = *question;
+    let part = part_with(question, subnet, address);
     let mask = mask_of(part.prefix);
     let host = reservation_options(config, names, message, subnet, address);
     let mut values = subnet_values(alloc, host, subnet, part, address)?;

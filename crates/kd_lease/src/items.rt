@@ -136,15 +136,7 @@ fn put_configured_at(
         ++ configured_in (asking question.now) (serving_subnet (asking question.now)) address) }
 {
     match question.subnet {
-        Some(subnet) => put_given(
-            alloc,
-            list,
-            question.config,
-            question.names,
-            subnet,
-            question.message,
-            address,
-        ),
+        Some(subnet) => put_given(alloc, list, question, subnet, address),
         None => Ok(()),
     }
 }

@@ -32,6 +32,7 @@ mod keeping;
 pub mod laws;
 mod leases;
 mod matter;
+mod parts;
 mod plan;
 mod pool_search;
 mod question;

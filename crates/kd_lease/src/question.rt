@@ -2,11 +2,13 @@ ghost use Rattle.std.specs.Prelude.{◌≡◌};
 ghost use Rattle.std.specs.Option.{option_copied, option_or};
 ghost use Rattle.kd_lease.specs.Keeper.{keeper_in};
 ghost use Rattle.kd_lease.specs.Kept.{kept_in};
+ghost use Rattle.kd_lease.specs.Parts.{part_in};
 ghost use Rattle.kd_lease.specs.SubnetOf.{subnet_serving};
 ghost use Rattle.kd_lease.specs.Withholding.{KnowsReserved};
 
 use crate::grounds::Ground;
 use crate::keeping::{home_of_keeper, keeper_of};
+use crate::parts::client_part;
 use crate::subnet::subnet_of;
 use kd_config::{Config, Subnet};
 use kd_machine::Held;
@@ -36,6 +38,9 @@ pub struct Question<'a> {
     pub(crate) known: Option<&'a Withheld>,
     // The subnet that has the address of the lease that the client keeps, if it does.
     pub(crate) keeper: Option<&'a Subnet>,
+    // The subnet that has the address that the client says it has, searched only once: in a shared network
+    // one of its subnets.
+    pub(crate) part: Option<&'a Subnet>,
     ghost knows: { KnowsReserved config.now rows.now.rows (option_copied known) },
     ghost keeper_is: { option_copied keeper
         ≡ keeper_in config.now rows.now.rows message.now moment client.now },
@@ -43,6 +48,8 @@ pub struct Question<'a> {
         ≡ kept_in config.now rows.now.rows message.now moment client.now },
     ghost serves: { option_copied subnet
         ≡ option_or (option_copied kept) (subnet_serving config.now names.now message.now) },
+    ghost part_is: { option_copied part
+        ≡ part_in config.now (option_copied subnet) message.now.header.ciaddr },
 }
 
 impl<'a> Question<'a> {
@@ -65,6 +72,7 @@ impl<'a> Question<'a> {
     {
         let keeper = keeper_of(over, message, client, moment);
         let kept = home_of_keeper(over.config, keeper);
+        let subnet = subnet_or(kept, over.config, names, message);
         Question {
             config: over.config,
             rows: over.rows,
@@ -75,7 +83,8 @@ impl<'a> Question<'a> {
             known: over.known,
             keeper,
             kept,
-            subnet: subnet_or(kept, over.config, names, message),
+            subnet,
+            part: client_part(over.config, subnet, message.header().ciaddr),
         }
     }
 }

@@ -4,6 +4,7 @@ ghost use Rattle.kd_config.specs.Sound.{longest_lease};
 ghost use Rattle.kd_lease.specs.Rules.{asking, granted_times};
 ghost use Rattle.kd_lease.specs.Times.{asked_seconds, class_lifetime, seconds_in, seconds_under, times_in_subnet, times_under};
 
+use crate::parts::term_with;
 use crate::question::Question;
 use kd_classes::{ClassDef, Classes, Lifetime};
 use kd_config::{Config, Term, Times};
@@ -20,7 +21,7 @@ pub(crate) fn times_for(question: &Question<'_>, address: u32) -> Times
     match question.subnet {
         Some(subnet) => times_by(
             config,
-            config.term_at(subnet, address),
+            term_with(question, subnet, address),
             question.names,
             question.message,
         ),
