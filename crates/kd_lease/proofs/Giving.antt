@@ -31,16 +31,15 @@ more_classes classes names i class at =
     ∙ class_options-append (take i classes) (class ∷ []) names
 
 -- the options of a configuration, each list as it is found
-pub all_given : (config : Configuration) (subnet part : Subnet) (names : List (List ℕ)) (m : Seen) (address : ℕ) (host classes all : List OptionData) (mask : List ℕ)
-    → host ≡ reserved_options config names m subnet address → part ≡ part_holding config.subnets subnet address → classes ≡ class_options config.classes names → all ≡ config.options → mask ≡ prefix_mask part.prefix
-    → host ++ options_of_pool subnet.pools address ++ part.options ++ part.shared ++ classes ++ all ++ record { code = 1; value = mask; always = false } ∷ [] ≡ given config subnet names m address
+pub all_given : (config : Configuration) (subnet part : Subnet) (names : List (List ℕ)) (m : Seen) (address : ℕ) (host pool classes all : List OptionData) (mask : List ℕ)
+    → host ≡ reserved_options config names m subnet address → pool ≡ options_of_pool subnet.pools address → part ≡ part_holding config.subnets subnet address → classes ≡ class_options config.classes names → all ≡ config.options → mask ≡ prefix_mask part.prefix
+    → host ++ pool ++ part.options ++ part.shared ++ classes ++ all ++ record { code = 1; value = mask; always = false } ∷ [] ≡ given config subnet names m address
 unfolding given
-all_given config subnet part names m address host classes all mask h p c a k =
-    (λ i. h i ++ options_of_pool subnet.pools address ++ part.options ++ part.shared ++ c i ++ a i ++ record { code = 1; value = k i; always = false } ∷ [])
+all_given config subnet part names m address host pool classes all mask h o p c a k =
+    (λ i. h i ++ o i ++ part.options ++ part.shared ++ c i ++ a i ++ record { code = 1; value = k i; always = false } ∷ [])
     ∙ ap (λ (s : Subnet). reserved_options config names m subnet address ++ options_of_pool subnet.pools address ++ s.options ++ s.shared ++ class_options config.classes names ++ config.options ++ mask_option s.prefix ∷ []) p
 
 -- the options that a subnet gives, each list as it is found
-pub all_of_subnet : (subnet part : Subnet) (address : ℕ) (host pool own shared : List OptionData)
-    → pool ≡ options_of_pool subnet.pools address → own ≡ part.options → shared ≡ part.shared
-    → host ++ pool ++ own ++ shared ≡ host ++ options_of_pool subnet.pools address ++ part.options ++ part.shared
-all_of_subnet subnet part address host pool own shared p o n = λ i. host ++ p i ++ o i ++ n i
+pub all_of_subnet : (part : Subnet) (host pool own shared : List OptionData) → own ≡ part.options → shared ≡ part.shared
+    → host ++ pool ++ own ++ shared ≡ host ++ pool ++ part.options ++ part.shared
+all_of_subnet part host pool own shared o n = λ i. host ++ pool ++ o i ++ n i

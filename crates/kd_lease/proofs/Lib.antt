@@ -5,6 +5,7 @@ pub mod Giving
 pub mod Guards
 pub mod Held
 pub mod Homes
+pub mod Keepers
 pub mod Least
 pub mod Lifetimes
 pub mod Members

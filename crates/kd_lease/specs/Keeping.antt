@@ -1,5 +1,5 @@
 -- Helpers of private contracts only: what follows for a message whose client keeps its lease.
-use Rattle.std.specs.Prelude.{ℕ, Bool, false, not, ◌&&◌, ◌==◌, Option, Some, None, is_some}
+use Rattle.std.specs.Prelude.{ℕ, Bool, false, not, ◌&&◌, ◌==◌, Option, Some, None, is_some, if◌then◌else◌}
 use Rattle.kd_config.specs.Networks.{covers}
 use Rattle.kd_config.specs.declared.subnet.Subnet.{Subnet}
 use Rattle.kd_lease.specs.Choice.{Asking, contained, reserved_anywhere}
@@ -19,6 +19,11 @@ abbrev pub keeps_pooled : Asking → Option Subnet → ℕ → Bool
 keeps_pooled q None a = false
 keeps_pooled q (Some s) a =
     q.message.header.ciaddr == a && (contained s a && not (reserved_anywhere q.config a))
+
+-- that subnet, if there is one and a pool of it contains this address
+abbrev pub pooled_keeper : Option Subnet → ℕ → Option Subnet
+pooled_keeper None a = None
+pooled_keeper (Some s) a = if contained s a then Some s else None
 
 -- the client has a row at an address of the subnet that serves the message, or of its network
 abbrev pub is_record_here : Asking → ℕ → Bool

@@ -1,18 +1,17 @@
 ghost use Rattle.std.specs.Prelude.{◌≡◌, ◌||◌, ◌++◌, ◌∷◌, [], IfOk, List, OnOk, Some, map};
 ghost use Rattle.kd_classes.specs.declared.option_list.OptionData.{OptionData};
 ghost use Rattle.kd_lease.specs.Client.{wants_option};
-ghost use Rattle.kd_lease.specs.Given.{class_options, configured, configured_options, given, options_of_pool, prefix_mask};
+ghost use Rattle.kd_lease.specs.Given.{class_options, configured, configured_options, given, prefix_mask};
 ghost use Rattle.kd_lease.specs.Plan.{option_of_item};
 ghost use Rattle.kd_lease.specs.Rules.{asking, serving_subnet};
 ghost use Rattle.kd_lease.specs.Valuing.{HasValues, HaveCodes};
 ghost use Rattle.kd_wire.specs.Area.{IsCode};
 
 use crate::client::asks_for;
-use crate::parts::part_with;
+use crate::parts::{part_with, pool_options_with};
 use crate::question::Question;
 use crate::reply::put_optional;
 use crate::reservation::reservation_options;
-use crate::subnet::pool_options;
 use crate::values::{Coded, Values};
 use kd_classes::{ClassDef, Classes, OptionData};
 use kd_config::{Prefix, Subnet};
@@ -43,29 +42,29 @@ pub(crate) fn put_given(
     let part = part_with(question, subnet, address);
     let mask = mask_of(part.prefix);
     let host = reservation_options(config, names, message, subnet, address);
-    let mut values = subnet_values(alloc, host, subnet, part, address)?;
-    put_class_options(&mut values, config.classes(), names)?;
+    let classes = config.classes();
+    let pool = pool_options_with(question, subnet, address);
+    let mut values = subnet_values(alloc, host, pool, part)?;
+    put_class_options(&mut values, classes, names)?;
     values.put_all(config.options())?;
     values.put(1, &mask, false)?;
     put_values(alloc, list, message, &values)
 }
 
-// Returns the values that a subnet gives at an address, where a part of its shared network, or itself,
-// has the address: those of a reservation, of the pool, of the part and of the network.
+// Returns the values that a subnet gives at an address: those of a reservation, of the pool, and of the
+// part of its shared network, or itself, that has the address, and of the network.
 fn subnet_values<'a>(
     alloc: Global,
     host: &'a [OptionData],
-    subnet: &'a Subnet,
+    pool: &'a [OptionData],
     part: &'a Subnet,
-    address: u32,
 ) -> Result<Values<'a>, AllocError>
     ensures { IfOk result (λ values. HasValues values.list.items
-        (host.now ++ options_of_pool subnet.now.pools address ++ part.now.options
-        ++ part.now.shared)) }
+        (host.now ++ pool.now ++ part.now.options ++ part.now.shared)) }
 {
     let mut values = Values::new(alloc);
     values.put_all(host)?;
-    values.put_all(pool_options(subnet, address))?;
+    values.put_all(pool)?;
     values.put_all(part.options.as_slice())?;
     values.put_all(part.shared.as_slice())?;
     Ok(values)

@@ -1,11 +1,16 @@
 ghost use Rattle.std.specs.Prelude.{◌≡◌, Some};
 ghost use Rattle.std.specs.Option.{option_copied};
 ghost use Rattle.kd_config.specs.Networks.{part_holding};
+ghost use Rattle.kd_config.specs.Sound.{IsSound};
+ghost use Rattle.kd_lease.specs.Given.{options_of_pool};
+ghost use Rattle.kd_lease.specs.Keeping.{keeper, pooled_keeper};
 ghost use Rattle.kd_lease.specs.Parts.{part_in, part_known};
 ghost use Rattle.kd_lease.specs.Rules.{asking, serving_subnet};
 
+use crate::fit::contains;
 use crate::question::Question;
-use kd_classes::Boot;
+use crate::subnet::pool_options;
+use kd_classes::{Boot, OptionData};
 use kd_config::{Config, Subnet, Term};
 
 // Returns the subnet that has the address that a client says it has, in host order, where a subnet serves
@@ -57,6 +62,34 @@ pub(crate) fn boot_with(question: &Question<'_>, subnet: &Subnet, address: u32) 
     match known_part(question, address) {
         Some(part) => part.boot,
         None => question.config.boot_at(subnet, address),
+    }
+}
+
+// Returns the options of the first pool of the one that serves the message which contains an address; none
+// if no pool does. If the client keeps its lease in a pool, the pools of its network are not searched.
+pub(crate) fn pool_options_with<'a>(
+    question: &Question<'a>,
+    subnet: &'a Subnet,
+    address: u32,
+) -> &'a [OptionData]
+    requires sound { IsSound question.now.config.now }
+    requires serves { serving_subnet (asking question.now) ≡ Some subnet.now }
+    ensures { result.now ≡ options_of_pool subnet.now.pools address }
+{
+    match keeper_with(question, address) {
+        Some(part) => pool_options(part, address),
+        None => pool_options(subnet, address),
+    }
+}
+
+// Returns the subnet that has the address of the lease that the client keeps, if it does and a pool there
+// contains this address.
+fn keeper_with<'a>(question: &Question<'a>, address: u32) -> Option<&'a Subnet>
+    ensures { option_copied result ≡ pooled_keeper (keeper (asking question.now)) address }
+{
+    match question.keeper {
+        Some(part) if contains(part, address) => Some(part),
+        _ => None,
     }
 }
 
