@@ -9,6 +9,7 @@ ghost use Rattle.kd_lease.specs.Rules.{asking, client_has, ending, fails, held_a
 
 use crate::fit::{contains, fits, is_free, lasts};
 use crate::matter::Matter;
+use crate::parts::is_in_part;
 use crate::question::Question;
 use crate::reservation::is_reserved;
 use crate::rule::{Check, Ending, Line};
@@ -86,6 +87,19 @@ fn is_here(question: &Question<'_>, address: u32) -> bool
         (serving_subnet (asking question.now)) (Some address) }
 {
     if keeps(question, address) {
+        true
+    } else {
+        is_in_network(question, address)
+    }
+}
+
+// The same, by the prefix of the subnet that was found for the client's address, or else by those of all
+// subnets.
+fn is_in_network(question: &Question<'_>, address: u32) -> bool
+    ensures { result ≡ passes_in (covers question.now.config.now.subnets)
+        (serving_subnet (asking question.now)) (Some address) }
+{
+    if is_in_part(question, address) {
         true
     } else {
         spans(question, address)

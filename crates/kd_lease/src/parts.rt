@@ -4,7 +4,7 @@ ghost use Rattle.kd_config.specs.Networks.{part_holding};
 ghost use Rattle.kd_config.specs.Sound.{IsSound};
 ghost use Rattle.kd_lease.specs.Given.{options_of_pool};
 ghost use Rattle.kd_lease.specs.Keeping.{keeper, pooled_keeper};
-ghost use Rattle.kd_lease.specs.Parts.{part_in, part_known};
+ghost use Rattle.kd_lease.specs.Parts.{part_has, part_in, part_known};
 ghost use Rattle.kd_lease.specs.Rules.{asking, serving_subnet};
 
 use crate::fit::contains;
@@ -28,8 +28,8 @@ pub(crate) fn client_part<'a>(
     }
 }
 
-// Returns the subnet that has an address, in host order, of the one that serves the message. In a shared
-// network the subnets are not searched for the address that the client says it has.
+// Returns the subnet that has an address, in host order: of a shared network one of its subnets, otherwise
+// the given one, which serves the message. A network is not searched for the client's own address again.
 #[tactic(auto, using(crate::proofs::Members::known_part))]
 pub(crate) fn part_with<'a>(question: &Question<'a>, subnet: &'a Subnet, address: u32) -> &'a Subnet
     requires { serving_subnet (asking question.now) ≡ Some subnet.now }
@@ -65,8 +65,20 @@ pub(crate) fn boot_with(question: &Question<'_>, subnet: &Subnet, address: u32) 
     }
 }
 
-// Returns the options of the first pool of the one that serves the message which contains an address; none
-// if no pool does. If the client keeps its lease in a pool, the pools of its network are not searched.
+// Reports whether an address is in the prefix of that subnet, and is the one that the client says it has.
+pub(crate) fn is_in_part(question: &Question<'_>, address: u32) -> bool
+    ensures { let q = asking question.now in
+        result
+        ≡ part_has (part_known q.config (serving_subnet q) q.message.header.ciaddr address) address }
+{
+    match known_part(question, address) {
+        Some(part) => part.prefix.contains(address),
+        None => false,
+    }
+}
+
+// Returns the options of the first pool that contains an address, of the subnet that serves the message;
+// none if no pool does. If the client keeps its lease in a pool, the pools of its network are not searched.
 pub(crate) fn pool_options_with<'a>(
     question: &Question<'a>,
     subnet: &'a Subnet,
