@@ -5,6 +5,7 @@ use Rattle.kd_classes.specs.declared.definition.ClassDef.{ClassDef}
 use Rattle.kd_classes.specs.declared.option_list.OptionData.{OptionData}
 use Rattle.kd_config.specs.declared.extensions.Extensions.{Extensions}
 use Rattle.kd_config.specs.declared.pool.Pool.{Pool}
+use Rattle.kd_config.specs.declared.reservation.IdentityKind.{IdentityKind}
 use Rattle.kd_config.specs.declared.subnet.Subnet.{Subnet}
 use Rattle.kd_config.specs.declared.times.Times.{Times}
 
@@ -26,20 +27,20 @@ no_extensions =
       keeps_leases = false;
       is_authoritative = false;
       ignores_client_ids = false;
-      ranks_identities = false;
+      identity_order = [];
     }
 
--- those of a configuration of Kea's are: relays select links, clients keep leases, the kinds of
--- identities have an order, and whether the server is authoritative and ignores client identifiers is
+-- those of a configuration of Kea's are: relays select links, clients keep leases, and whether the
+-- server is authoritative and ignores client identifiers, and the order of the kinds of identities, is
 -- as its file says
-abbrev pub kea_extensions : Bool → Bool → Extensions
-kea_extensions is_authoritative ignores_client_ids =
+abbrev pub kea_extensions : Bool → Bool → List IdentityKind → Extensions
+kea_extensions is_authoritative ignores_client_ids order =
     record {
       selects_links = true;
       keeps_leases = true;
       is_authoritative = is_authoritative;
       ignores_client_ids = ignores_client_ids;
-      ranks_identities = true;
+      identity_order = order;
     }
 
 -- the times of the built-in configuration

@@ -30,7 +30,7 @@ impl Config {
             alloc,
             0xc000_0201,
             builtin_times(),
-            Extensions::none(),
+            Extensions::none(alloc),
             OptionList::own(Vec::new(alloc)),
             no_classes(alloc),
             Entries::own(subnets),

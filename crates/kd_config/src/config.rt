@@ -137,11 +137,11 @@ impl Config {
     }
 
     /// Returns the extensions of the rules.
-    pub fn extensions(&self) -> Extensions
-        ensures same { result ≡ self.now.extensions }
+    pub fn extensions(&self) -> &Extensions
+        ensures same { result.now ≡ self.now.extensions }
         ensures sound { IsSound self.now }
     {
-        self.extensions
+        &self.extensions
     }
 
     /// Returns the options of all replies: at most 64, with no code twice.

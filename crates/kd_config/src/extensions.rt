@@ -1,8 +1,12 @@
 ghost use Rattle.std.specs.Prelude.{◌≡◌};
 ghost use Rattle.kd_config.specs.Configuration.{kea_extensions, no_extensions};
 
+use crate::reservation::IdentityKind;
+use kd_wire::Entries;
+use std::alloc::Global;
+
 /// Rules of ISC Kea that a configuration in our own format does not have.
-#[derive(Clone, Copy)]
+#[derive(Drop)]
 pub struct Extensions {
     /// A relay may select the link on which its client is (RFC 3527).
     pub selects_links: bool,
@@ -16,15 +20,15 @@ pub struct Extensions {
     /// A client is known by its hardware, whatever client identifier it sends (Kea Administrator
     /// Reference Manual, Using Client Identifier and Hardware Address).
     pub ignores_client_ids: bool,
-    /// The reservation of a client is that for its hardware address, or else that for its DUID, its
-    /// circuit or its identifier, in this order (Kea Administrator Reference Manual, Host
-    /// Reservations in DHCPv4).
-    pub ranks_identities: bool,
+    /// The kinds of identities by which the reservation of a client is looked for, in this order
+    /// (Kea Administrator Reference Manual, Fine Tuning DHCPv4 Host Reservation). If there are none,
+    /// it is the first in its subnet.
+    pub identity_order: Entries<IdentityKind>,
 }
 
 impl Extensions {
     /// Returns those of a configuration in our own format: none.
-    pub fn none() -> Extensions
+    pub fn none(alloc: Global) -> Extensions
         ensures { result ≡ no_extensions }
     {
         Extensions {
@@ -32,21 +36,25 @@ impl Extensions {
             keeps_leases: false,
             is_authoritative: false,
             ignores_client_ids: false,
-            ranks_identities: false,
+            identity_order: Entries::own(Vec::new(alloc)),
         }
     }
 
-    /// Returns those of a configuration of Kea's: relays select links, clients keep leases and the
-    /// kinds of identities have an order, and the other two are as the file says.
-    pub fn of_kea(is_authoritative: bool, ignores_client_ids: bool) -> Extensions
-        ensures { result ≡ kea_extensions is_authoritative ignores_client_ids }
+    /// Returns those of a configuration of Kea's: relays select links, clients keep leases, and the
+    /// others are as the file says.
+    pub fn of_kea(
+        is_authoritative: bool,
+        ignores_client_ids: bool,
+        identity_order: Entries<IdentityKind>,
+    ) -> Extensions
+        ensures { result ≡ kea_extensions is_authoritative ignores_client_ids identity_order }
     {
         Extensions {
             selects_links: true,
             keeps_leases: true,
             is_authoritative,
             ignores_client_ids,
-            ranks_identities: true,
+            identity_order,
         }
     }
 }

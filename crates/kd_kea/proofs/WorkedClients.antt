@@ -9,7 +9,7 @@ use Rattle.kd_json.specs.Document.{value_spelled}
 use Rattle.kd_json.specs.HexText.{bytes_spelled}
 use Rattle.kd_json.specs.Values.{hex_bytes_in}
 use Rattle.kd_kea.specs.HostClient.{host_bytes, kea_client}
-use Rattle.kd_kea.specs.HostKinds.{are_all_found, every_kind, finds_reservations, kinds_given}
+use Rattle.kd_kea.specs.HostKinds.{are_all_found, every_kind, finds_reservations, kinds_given, order_given}
 use Rattle.kd_kea.specs.Quoted.{bytes_in_quotes}
 use Rattle.kd_kea.specs.Values.{has_whole_bytes}
 use Rattle.kd_wire.specs.Steps.{◌>>=◌}
@@ -36,16 +36,16 @@ example_5 : (value_spelled (codes "{\"hw-address\": \"'12345678901234567'\"}") >
 unfolding serde_json_on_literals chars digits is_utf8 value_spelled bytes_spelled hex_bytes_in has_whole_bytes bytes_in_quotes host_bytes kea_client
 example_5 = refl
 
--- some kinds in order, with flex-id between them
+-- some kinds, with flex-id between them, and another order
 example_6 : option_map (λ d. finds_reservations (Some d)) (value_spelled (codes "[\"duid\", \"flex-id\", \"client-id\"]")) ≡ Some true
 unfolding serde_json_on_literals chars digits is_utf8 value_spelled
 example_6 = refl
 
--- another order, a kind that is there twice, and another name
-example_7 : option_map (λ d. finds_reservations (Some d)) (value_spelled (codes "[\"client-id\", \"duid\"]")) ≡ Some false
+example_7 : option_map (λ d. finds_reservations (Some d)) (value_spelled (codes "[\"client-id\", \"duid\"]")) ≡ Some true
 unfolding serde_json_on_literals chars digits is_utf8 value_spelled
 example_7 = refl
 
+-- a kind that is there twice, and another name
 example_8 : option_map (λ d. finds_reservations (Some d)) (value_spelled (codes "[\"duid\", \"duid\"]")) ≡ Some false
 unfolding serde_json_on_literals chars digits is_utf8 value_spelled
 example_8 = refl
@@ -53,6 +53,14 @@ example_8 = refl
 example_9 : option_map (λ d. finds_reservations (Some d)) (value_spelled (codes "[\"auto\"]")) ≡ Some false
 unfolding serde_json_on_literals chars digits is_utf8 value_spelled
 example_9 = refl
+
+-- the order of the kinds that are named, and the usual one
+example_12 : option_map (λ d. order_given (Some d)) (value_spelled (codes "[\"circuit-id\", \"flex-id\", \"hw-address\"]")) ≡ Some (kinds.Circuit ∷ kinds.Hardware ∷ [])
+unfolding serde_json_on_literals chars digits is_utf8 value_spelled
+example_12 = refl
+
+example_13 : order_given None ≡ kinds.Hardware ∷ kinds.Duid ∷ kinds.Circuit ∷ kinds.ClientId ∷ []
+example_13 = refl
 
 -- the kinds that are named, and a reservation by a kind that is left out
 example_10 : option_map (λ d. kinds_given (Some d)) (value_spelled (codes "[\"duid\"]")) ≡ Some (record { hardware = false; duid = true; circuit = false; client_id = false })

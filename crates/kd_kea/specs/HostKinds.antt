@@ -1,8 +1,7 @@
 -- The kinds of identity by which reservations are looked for in a configuration of Kea's
--- (`host-reservation-identifiers`). They are looked for in one order, Kea's usual one.
-use Rattle.std.specs.Prelude.{Bool, true, false, not, ◌||◌, List, [], ◌∷◌, codes, Option, None, Some, is_some, if◌then◌else◌, ℕ}
-use Rattle.std.specs.List.{list_all}
-use Rattle.std.specs.Option.{option_map_or}
+-- (`host-reservation-identifiers`), and their order.
+use Rattle.std.specs.Prelude.{Bool, true, false, not, ◌&&◌, ◌||◌, List, [], ◌∷◌, ◌++◌, codes, Option, None, Some, is_some, ℕ}
+use Rattle.std.specs.List.{find, list_all, list_any}
 use Rattle.serde_json.specs.Data.{Data, Items, no_items, item, array}
 use Rattle.serde_json.specs.Find.{get}
 use Rattle.kd_config.specs.declared.reservation.IdentityKind.{IdentityKind}
@@ -18,33 +17,50 @@ kind_key kinds.Duid = codes "duid"
 kind_key kinds.Circuit = codes "circuit-id"
 kind_key kinds.ClientId = codes "client-id"
 
--- the kinds of identity, in the order in which they are looked for
+-- the kinds of identity, in the usual order
 abbrev pub kinds_in_order : List IdentityKind
 kinds_in_order = kinds.Hardware ∷ kinds.Duid ∷ kinds.Circuit ∷ kinds.ClientId ∷ []
 
--- the kinds behind the one with this name
-abbrev pub kinds_behind : List IdentityKind → Data → Option (List IdentityKind)
-kinds_behind [] d = None
-kinds_behind (kind ∷ left) d =
-    if is_plain (word (kind_key kind)) d then Some left else kinds_behind left d
+-- the kind of identity that has this name
+abbrev pub kind_named : Data → Option IdentityKind
+kind_named d = find (λ kind. is_plain (word (kind_key kind)) d) kinds_in_order
 
--- the kinds that may follow a name: those behind its kind; or all of these, if the name is
--- `flex-id`, by which nothing is reserved
-abbrev pub kinds_after : List IdentityKind → Data → Option (List IdentityKind)
-kinds_after left d =
-    if is_plain (word (codes "flex-id")) d then Some left else kinds_behind left d
+-- a name is that of a kind of identity, or `flex-id`, by which nothing is reserved
+abbrev pub is_kind_name : Data → Bool
+is_kind_name d = is_plain (word (codes "flex-id")) d || is_some (kind_named d)
 
--- items name some of these kinds, in their order; `flex-id` may be anywhere
-abbrev pub name_in_order : List IdentityKind → Items → Bool
-name_in_order left no_items = true
-name_in_order left (item d ds) =
-    option_map_or (λ rest. name_in_order rest ds) (kinds_after left d) false
+-- a name is that of a kind of identity, and so is one of these
+abbrev pub is_named_again : Data → Items → Bool
+is_named_again d names =
+    list_any (λ kind. is_plain (word (kind_key kind)) d && has_plain (word (kind_key kind)) names)
+    kinds_in_order
 
--- reservations are looked for in the usual order, by all kinds or by some
+-- items name kinds of identity, each at most once
+abbrev pub name_kinds : Items → Bool
+name_kinds no_items = true
+name_kinds (item d ds) = (is_kind_name d && not (is_named_again d ds)) && name_kinds ds
+
+-- reservations are looked for by all kinds in the usual order, or by some in another
 abbrev pub finds_reservations : Option Data → Bool
 finds_reservations None = true
-finds_reservations (Some (array names)) = name_in_order kinds_in_order names
+finds_reservations (Some (array names)) = name_kinds names
 finds_reservations (Some d) = false
+
+-- a kind, if there is one
+abbrev pub kind_list : Option IdentityKind → List IdentityKind
+kind_list None = []
+kind_list (Some kind) = kind ∷ []
+
+-- the kinds that items name, in their order
+abbrev pub named_kinds : Items → List IdentityKind
+named_kinds no_items = []
+named_kinds (item d ds) = kind_list (kind_named d) ++ named_kinds ds
+
+-- the kinds in the order in which reservations are looked for: the usual one, unless a list names them
+abbrev pub order_given : Option Data → List IdentityKind
+order_given None = kinds_in_order
+order_given (Some (array names)) = named_kinds names
+order_given (Some d) = kinds_in_order
 
 -- all kinds
 abbrev pub every_kind : HostKinds

@@ -10,7 +10,7 @@ use Rattle.kd_json.specs.declared.objects.settings.Settings.{Settings}
 use Rattle.kd_kea.specs.Boot.{kea_boot}
 use Rattle.kd_kea.specs.Class.{kea_class}
 use Rattle.kd_kea.specs.Definitions.{kea_known}
-use Rattle.kd_kea.specs.HostKinds.{finds_reservations, kinds_given}
+use Rattle.kd_kea.specs.HostKinds.{finds_reservations, kinds_given, order_given}
 use Rattle.kd_kea.specs.HostName.{server_has_bare_names}
 use Rattle.kd_kea.specs.Hooks.{hooks_are_quiet}
 use Rattle.kd_kea.specs.Keys.{Plain, flag, keys_are_read, no_list}
@@ -47,7 +47,7 @@ unfoldable pub kea_settings_with : List Definition → List OptionData → Above
 kea_settings_with known options above d = do
   classes ← list_of 256 (kea_class known) (get (codes "client-classes") d)
   subnets ← kea_subnets above known d
-  Some (record { server = above.server; times = above.times; extensions = kea_extensions above.policy.is_authoritative (not above.policy.matches_client_ids); options = sent_to_all options; classes = classes; subnets = subnets })
+  Some (record { server = above.server; times = above.times; extensions = kea_extensions above.policy.is_authoritative (not above.policy.matches_client_ids) (order_given (get (codes "host-reservation-identifiers") d)); options = sent_to_all options; classes = classes; subnets = subnets })
 
 -- the settings that the value of `Dhcp4` describes, for a server with this address if no option
 -- has another

@@ -1,15 +1,14 @@
 -- What holds of every reservation of a subnet holds of the one that counts for a message.
-use Rattle.std.proofs.Common.{◌≡◌, ℕ, Bool, true, false, ◌&&◌, List, Option, None, Some, if◌then◌else◌}
+use Rattle.std.proofs.Common.{◌≡◌, ℕ, Bool, true, false, ◌&&◌, List, [], ◌∷◌, Option, None, Some, if◌then◌else◌}
 use Rattle.std.specs.Prelude.{IfSome}
 use Rattle.std.specs.List.{AllByRecursion, find}
 use Rattle.std.specs.Option.{option_or}
 use Rattle.kd_config.specs.Configuration.{Configuration}
 use Rattle.kd_config.specs.Reservation.{has_reserved}
 use Rattle.kd_config.specs.declared.reservation.IdentityKind.{IdentityKind}
-use Rattle.kd_config.specs.declared.reservation.IdentityKind.TheVariants as kinds
 use Rattle.kd_config.specs.declared.reservation.Reservation.{Reservation}
 use Rattle.kd_config.specs.declared.subnet.Subnet.{Subnet}
-use Rattle.kd_lease.specs.Choice.{client_reservation, counts_by, is_from, ranked_reservation, reservation_by}
+use Rattle.kd_lease.specs.Choice.{client_reservation, counts_by, is_from, ordered_reservation, ranked_reservation, reservation_by}
 use Rattle.kd_lease.specs.Kept.{if_unseen, may_be_unseen, renews_alone, reservation_at, unseen_reservation}
 use Rattle.kd_options.specs.Message.{Seen}
 use Rattle.kd_lease.proofs.Served.{find-each}
@@ -22,18 +21,16 @@ module _ (P : Reservation → Type 0) (names : List (List ℕ)) (m : Seen) (s : 
   by_kind : (kind : IdentityKind) → IfSome (reservation_by names m s kind) P
   by_kind kind = find-each P (counts_by names m kind) s.reservations each
 
-  ranked_each : IfSome (ranked_reservation names m s) P
-  ranked_each =
-      or_each P (reservation_by names m s kinds.Hardware) (option_or (reservation_by names m s kinds.Duid) (option_or (reservation_by names m s kinds.Circuit) (reservation_by names m s kinds.ClientId))) (by_kind kinds.Hardware)
-      (or_each P (reservation_by names m s kinds.Duid) (option_or (reservation_by names m s kinds.Circuit) (reservation_by names m s kinds.ClientId)) (by_kind kinds.Duid)
-      (or_each P (reservation_by names m s kinds.Circuit) (reservation_by names m s kinds.ClientId) (by_kind kinds.Circuit) (by_kind kinds.ClientId)))
+  ranked_each : (order : List IdentityKind) → IfSome (ranked_reservation order names m s) P
+  ranked_each [] = tt
+  ranked_each (kind ∷ order) = or_each P (reservation_by names m s kind) (ranked_reservation order names m s) (by_kind kind) (ranked_each order)
 
   -- it holds of the reservation for the client
   pub client_each : (config : Configuration) → IfSome (client_reservation config names m s) P
-  client_each config = by config.extensions.ranks_identities where
-    by : (b : Bool) → IfSome (if b then ranked_reservation names m s else find (λ r. is_from m r.identity) s.reservations) P
-    by true = ranked_each
-    by false = find-each P (λ r. is_from m r.identity) s.reservations each
+  client_each config = by config.extensions.identity_order where
+    by : (order : List IdentityKind) → IfSome (ordered_reservation order names m s) P
+    by [] = find-each P (λ r. is_from m r.identity) s.reservations each
+    by (kind ∷ order) = ranked_each (kind ∷ order)
 
   -- and of that of an address that no relay shows
   pub unseen_each : (a : ℕ) → IfSome (unseen_reservation m s a) P

@@ -22,7 +22,7 @@ use Rattle.kd_config.specs.declared.reservation.Reservation.{Reservation}
 use Rattle.kd_config.specs.declared.subnet.Subnet.{Subnet}
 use Rattle.kd_options.specs.Joined.{value_of}
 use Rattle.kd_options.specs.Message.{Seen, mac_of}
-use Rattle.kd_lease.specs.Choice.{is_from, ranked_reservation, reserved_anywhere, reserved_in, client_reservation, same_value}
+use Rattle.kd_lease.specs.Choice.{is_from, ordered_reservation, reserved_anywhere, reserved_in, client_reservation, same_value}
 use Rattle.kd_lease.specs.Kept.{renews_alone, reservation_at, unseen_reservation}
 use Rattle.kd_lease.specs.Seeking.{reserves}
 use Rattle.kd_lease.specs.SubnetOf.{classes_admit}
@@ -146,12 +146,12 @@ or_nothing None = refl
 or_nothing (Some r) = refl
 
 -- where kinds of identities have no order and no lease is kept, it is the first of the subnet
-pub by_list : (config : Configuration) (names : List (List ℕ)) (m : Seen) (s : Subnet) (a : ℕ) → config.extensions.ranks_identities ≡ false → config.extensions.keeps_leases ≡ false
+pub by_list : (config : Configuration) (names : List (List ℕ)) (m : Seen) (s : Subnet) (a : ℕ) → config.extensions.identity_order ≡ [] → config.extensions.keeps_leases ≡ false
     → reservation_at config names m s a ≡ find (λ r. is_from m r.identity) s.reservations
 by_list config names m s a plain none =
     ap (λ (b : Bool). option_or (client_reservation config names m s) (if b && renews_alone m a then unseen_reservation m s a else None)) none
     ∙ or_nothing (client_reservation config names m s)
-    ∙ ap (λ (b : Bool). if b then ranked_reservation names m s else find (λ r. is_from m r.identity) s.reservations) plain
+    ∙ ap (λ (kinds : List IdentityKind). ordered_reservation kinds names m s) plain
 
 none_in : (rs : List Reservation) (a : ℕ) → is_some_reserved rs ≡ false → list_any (has_reserved a) rs ≡ false
 none_in [] a none = refl

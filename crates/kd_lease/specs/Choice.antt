@@ -15,7 +15,6 @@ use Rattle.kd_config.specs.declared.pool.Pool.{Pool}
 use Rattle.kd_config.specs.declared.reservation.Identity.{Identity}
 use Rattle.kd_config.specs.declared.reservation.Identity.TheVariants as clients
 use Rattle.kd_config.specs.declared.reservation.IdentityKind.{IdentityKind}
-use Rattle.kd_config.specs.declared.reservation.IdentityKind.TheVariants as kinds
 use Rattle.kd_config.specs.declared.reservation.Reservation.{Reservation}
 use Rattle.kd_config.specs.declared.subnet.Subnet.{Subnet}
 use Rattle.kd_lease.specs.Client.{client_bytes, requested_address}
@@ -59,20 +58,21 @@ counts_by names m kind reservation =
 abbrev pub reservation_by : List (List ℕ) → Seen → Subnet → IdentityKind → Option Reservation
 reservation_by names m s kind = find (counts_by names m kind) s.reservations
 
--- the reservation by the hardware address of the client, or else by its DUID, its circuit or its
--- identifier, in this order
-abbrev pub ranked_reservation : List (List ℕ) → Seen → Subnet → Option Reservation
-ranked_reservation names m s =
-    option_or (reservation_by names m s kinds.Hardware)
-    (option_or (reservation_by names m s kinds.Duid)
-    (option_or (reservation_by names m s kinds.Circuit) (reservation_by names m s kinds.ClientId)))
+-- the reservation by the first of these kinds of identity that has one
+abbrev pub ranked_reservation : List IdentityKind → List (List ℕ) → Seen → Subnet → Option Reservation
+ranked_reservation [] names m s = None
+ranked_reservation (kind ∷ kinds) names m s =
+    option_or (reservation_by names m s kind) (ranked_reservation kinds names m s)
 
--- the reservation for a message whose classes have these names: where kinds of identities have an
--- order, the first by it; otherwise the first of the subnet that is for its client
+-- the same by an order of the kinds; without one, the first of the subnet that is for the client
+abbrev pub ordered_reservation : List IdentityKind → List (List ℕ) → Seen → Subnet → Option Reservation
+ordered_reservation [] names m s =
+    find (λ reservation. is_from m reservation.identity) s.reservations
+ordered_reservation (kind ∷ kinds) names m s = ranked_reservation (kind ∷ kinds) names m s
+
+-- the reservation for a message whose classes have these names
 abbrev pub client_reservation : Configuration → List (List ℕ) → Seen → Subnet → Option Reservation
-client_reservation config names m s =
-    if config.extensions.ranks_identities then ranked_reservation names m s
-    else find (λ reservation. is_from m reservation.identity) s.reservations
+client_reservation config names m s = ordered_reservation config.extensions.identity_order names m s
 
 -- the address that is reserved for the client of a message
 abbrev pub address_reserved : Configuration → List (List ℕ) → Seen → Subnet → Option ℕ

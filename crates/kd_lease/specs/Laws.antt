@@ -168,7 +168,7 @@ KnownByMessage =
 abbrev pub ReservedByList : Type 0
 ReservedByList =
     (config : Configuration) (names : List (List ℕ)) (m : Seen) (s : Subnet) (a : ℕ)
-    → config.extensions.ranks_identities ≡ false → config.extensions.keeps_leases ≡ false
+    → config.extensions.identity_order ≡ [] → config.extensions.keeps_leases ≡ false
     → reservation_at config names m s a
     ≡ find (λ reservation. is_from m reservation.identity) s.reservations
 

@@ -35,9 +35,8 @@ pub(crate) fn reserved_address(
 }
 
 /// Returns the reservation of a subnet for the client of a message, which is in the classes with
-/// these names: where kinds of identities have an order, that by its hardware address, or else its
-/// DUID, its circuit or its identifier, of those whose classes are held; otherwise the first by its
-/// hardware address or its option 61.
+/// these names: where kinds of identities have an order, that by the first kind of those whose
+/// classes are held; otherwise the first by its hardware address or its option 61.
 pub fn reservation_of<'a>(
     config: &Config,
     names: &Held,
@@ -47,10 +46,9 @@ pub fn reservation_of<'a>(
     ensures { option_copied result
         ≡ client_reservation config.now names.now message.now subnet.now }
 {
-    if config.extensions().ranks_identities {
-        ranked(names, message, subnet)
-    } else {
-        first_listed(message, subnet)
+    match config.extensions().identity_order.as_slice() {
+        [] => first_listed(message, subnet),
+        kinds => ranked(kinds, names, message, subnet),
     }
 }
 
@@ -65,21 +63,22 @@ fn first_listed<'a>(message: &Message<'_>, subnet: &'a Subnet) -> Option<&'a Res
         .of_client(message.mac(), message.option(OPTION_CLIENT_IDENTIFIER))
 }
 
-// Returns the reservation for the client of a message by the first kind of identity that has one whose
-// classes are held.
-fn ranked<'a>(names: &Held, message: &Message<'_>, subnet: &'a Subnet) -> Option<&'a Reservation>
-    ensures { option_copied result ≡ ranked_reservation names.now message.now subnet.now }
+// Returns the reservation for the client of a message by the first of these kinds of identity that has
+// one whose classes are held.
+fn ranked<'a>(
+    kinds: &[IdentityKind],
+    names: &Held,
+    message: &Message<'_>,
+    subnet: &'a Subnet,
+) -> Option<&'a Reservation>
+    ensures { option_copied result ≡ ranked_reservation kinds.now names.now message.now subnet.now }
 {
-    if let Some(found) = by_kind(names, message, subnet, IdentityKind::Hardware) {
-        return Some(found);
+    for kind in kinds {
+        if let Some(found) = by_kind(names, message, subnet, *kind) {
+            return Some(found);
+        }
     }
-    if let Some(found) = by_kind(names, message, subnet, IdentityKind::Duid) {
-        return Some(found);
-    }
-    if let Some(found) = by_kind(names, message, subnet, IdentityKind::Circuit) {
-        return Some(found);
-    }
-    by_kind(names, message, subnet, IdentityKind::ClientId)
+    None
 }
 
 // Returns the first reservation for the client of a message by a kind of identity whose classes are

@@ -79,7 +79,7 @@ fn settings_of_lists(
     Ok(Settings {
         server,
         times,
-        extensions: Extensions::none(),
+        extensions: Extensions::none(alloc),
         options,
         classes,
         subnets,

@@ -1,19 +1,20 @@
-ghost use Rattle.std.specs.Prelude.{◌≡◌, codes, option_map};
+ghost use Rattle.std.specs.Prelude.{◌≡◌, ◌&&◌, ◌++◌, IfOk, OnOk, codes, not};
 ghost use Rattle.serde_json.specs.Find.{get};
 ghost use Rattle.serde_json.specs.View.{items_view, view};
 ghost use Rattle.kd_json.specs.Gives.{Means};
 ghost use Rattle.kd_json.specs.Steps.{must};
 ghost use Rattle.kd_json.specs.declared.objects.faults.SettingsFault.TheVariants.{Memory};
-ghost use Rattle.kd_kea.specs.HostKinds.{are_all_found, every_kind, finds_reservations, is_found_if_given, kind_key, kinds_after, kinds_among, kinds_behind, kinds_given, kinds_in_order, looks_for, name_in_order};
-ghost use Rattle.kd_kea.specs.Keys.{word};
+ghost use Rattle.kd_kea.specs.HostKinds.{are_all_found, every_kind, finds_reservations, is_found_if_given, is_kind_name, is_named_again, kind_key, kind_list, kind_named, kinds_among, kinds_given, kinds_in_order, looks_for, name_kinds, named_kinds, order_given};
+ghost use Rattle.kd_kea.specs.Keys.{is_plain, word};
 ghost use Rattle.kd_kea.specs.Values.{has_plain};
 
 use crate::keys::{UsualValue, is_usual};
 use kd_config::IdentityKind;
 use kd_json::objects::faults::SettingsFault;
 use kd_json::rules::place::{Place, unknown};
+use kd_wire::Entries;
 use serde_json::Value;
-use std::alloc::Global;
+use std::alloc::{AllocError, Global};
 
 // The key of the kinds by which reservations are looked for.
 const IDENTIFIERS: &str = "host-reservation-identifiers";
@@ -52,7 +53,7 @@ impl HostKinds {
     }
 }
 
-// Returns the kinds of identity, in the order in which reservations are looked for.
+// Returns the kinds of identity, in the usual order.
 pub(crate) fn all_kinds() -> &'static [IdentityKind]
     ensures { result.now ≡ kinds_in_order }
 {
@@ -94,7 +95,7 @@ pub(crate) fn check_kinds(
     Ok(())
 }
 
-// Checks that reservations are looked for in the usual order, by all kinds or by some.
+// Checks that reservations are looked for by kinds of identity, each named at most once.
 pub(crate) fn check_identifiers(
     alloc: Global,
     dhcp4: &Value,
@@ -111,7 +112,7 @@ pub(crate) fn check_identifiers(
     }
 }
 
-// Reports whether reservations are looked for in the usual order, by all kinds or by some.
+// Reports whether reservations are looked for by kinds of identity, each named at most once.
 pub(crate) fn has_identifiers(dhcp4: &Value) -> bool
     ensures { result
         ≡ finds_reservations (get (codes "host-reservation-identifiers") (view dhcp4.now)) }
@@ -120,48 +121,107 @@ pub(crate) fn has_identifiers(dhcp4: &Value) -> bool
         return true;
     };
     match value.as_array() {
-        Some(names) => are_in_order(names, all_kinds()),
+        Some(names) => are_kinds(names),
         None => false,
     }
 }
 
-// Reports whether values name some of these kinds, in their order.
-fn are_in_order(names: &[Value], kinds: &[IdentityKind]) -> bool
-    ensures { result ≡ name_in_order kinds.now (items_view names.now) }
+// Reports whether values name kinds of identity, each at most once.
+fn are_kinds(names: &[Value]) -> bool
+    ensures { result ≡ name_kinds (items_view names.now) }
 {
-    let mut left = kinds;
-    for name in names {
-        left = match rest_after(left, name) {
-            Some(rest) => rest,
-            None => return false,
-        };
+    let mut left = names;
+    while let [name, rest @ ..] = left {
+        if !is_new_kind(name, rest) {
+            return false;
+        }
+        left = rest;
     }
     true
 }
 
-// Returns the kinds that may follow a name.
-fn rest_after<'a>(kinds: &'a [IdentityKind], name: &Value) -> Option<&'a [IdentityKind]>
-    ensures { option_map (λ rest. rest.now) result ≡ kinds_after kinds.now (view name.now) }
+// Reports whether a value names a kind of identity, and none of these names it again.
+fn is_new_kind(name: &Value, others: &[Value]) -> bool
+    ensures { result ≡ (is_kind_name (view name.now)
+        && not (is_named_again (view name.now) (items_view others.now))) }
 {
-    if is_usual(UsualValue::Text("flex-id"), name) {
-        Some(kinds)
-    } else {
-        rest_behind(kinds, name)
+    is_kind(name) && !comes_again(name, others)
+}
+
+// Reports whether a value is the name of a kind of identity, or `flex-id`.
+fn is_kind(name: &Value) -> bool
+    ensures { result ≡ is_kind_name (view name.now) }
+{
+    is_usual(UsualValue::Text("flex-id"), name) || kind_of_name(name).is_some()
+}
+
+// Reports whether a value is the name of a kind of identity, and so is one of these.
+fn comes_again(name: &Value, others: &[Value]) -> bool
+    ensures { result ≡ is_named_again (view name.now) (items_view others.now) }
+{
+    all_kinds().iter().any(|kind| is_name(*kind, name) && has_text(others, key_of_kind(*kind)))
+}
+
+// Returns the kind of identity that has this name, if one has.
+fn kind_of_name(name: &Value) -> Option<IdentityKind>
+    ensures { result ≡ kind_named (view name.now) }
+{
+    match all_kinds().iter().find(|kind| is_name(**kind, name)) {
+        Some(kind) => Some(*kind),
+        None => None,
     }
 }
 
-// Returns the kinds behind the one with this name, if there is one.
-fn rest_behind<'a>(kinds: &'a [IdentityKind], name: &Value) -> Option<&'a [IdentityKind]>
-    ensures { option_map (λ rest. rest.now) result ≡ kinds_behind kinds.now (view name.now) }
+// Reports whether a value is the name of a kind of identity.
+fn is_name(kind: IdentityKind, name: &Value) -> bool
+    ensures { result ≡ is_plain (word (kind_key kind)) (view name.now) }
 {
-    let mut left = kinds;
-    while let [kind, rest @ ..] = left {
-        if is_usual(UsualValue::Text(key_of_kind(*kind)), name) {
-            return Some(rest);
-        }
-        left = rest;
+    is_usual(UsualValue::Text(key_of_kind(kind)), name)
+}
+
+// Returns the kinds in the order in which reservations are looked for: the usual one, unless a list names
+// them.
+pub(crate) fn order_of(alloc: Global, dhcp4: &Value) -> Result<Entries<IdentityKind>, AllocError>
+    ensures { IfOk result (λ order. order
+        ≡ order_given (get (codes "host-reservation-identifiers") (view dhcp4.now))) }
+{
+    let Some(value) = dhcp4.get(IDENTIFIERS) else {
+        return usual_order(alloc);
+    };
+    match value.as_array() {
+        Some(names) => order_named(alloc, names),
+        None => usual_order(alloc),
     }
-    None
+}
+
+// Returns the kinds in the usual order.
+fn usual_order(alloc: Global) -> Result<Entries<IdentityKind>, AllocError>
+    ensures { IfOk result (λ order. order ≡ kinds_in_order) }
+{
+    Ok(Entries::own(Vec::from_slice(alloc, all_kinds())?))
+}
+
+// Returns the kinds that these values name, in their order.
+fn order_named(alloc: Global, names: &[Value]) -> Result<Entries<IdentityKind>, AllocError>
+    ensures { IfOk result (λ order. order ≡ named_kinds (items_view names.now)) }
+{
+    let mut order = Vec::new(alloc);
+    for name in names {
+        push_kind(&mut order, name)?;
+    }
+    Ok(Entries::own(order))
+}
+
+// Appends the kind that has a name, if one has.
+fn push_kind(order: &mut Vec<IdentityKind>, name: &Value) -> Result<(), AllocError>
+    ensures { OnOk result (order.new.items
+        ≡ order.old.items ++ kind_list (kind_named (view name.now))) }
+{
+    match kind_of_name(name) {
+        Some(kind) => order.push(kind)?,
+        None => {}
+    }
+    Ok(())
 }
 
 // Returns the kinds by which reservations are looked for: all, unless a list names them.

@@ -16,7 +16,7 @@ use crate::objects::class::ClassReader;
 use crate::objects::definition::{Definition, known_definitions};
 use crate::objects::flags::{check_usual, flag_at, is_usual_at};
 use crate::objects::hooks::check_hooks;
-use crate::objects::host_kinds::{check_identifiers, kinds_of_server};
+use crate::objects::host_kinds::{check_identifiers, kinds_of_server, order_of};
 use crate::objects::host_name::server_names_are_bare;
 use crate::objects::lifetimes::{TermKeys, is_lifetime_by_class, keys_of};
 use crate::objects::network::subnets_of;
@@ -27,11 +27,12 @@ use crate::objects::subnet::Above;
 use crate::objects::times::times_of;
 use crate::tables::ObjectKind;
 use kd_classes::{OptionData, OptionList};
-use kd_config::Extensions;
+use kd_config::{Extensions, IdentityKind};
 use kd_json::objects::faults::SettingsFault;
 use kd_json::objects::lists::entries_of;
 use kd_json::objects::settings::Settings;
 use kd_json::rules::place::{Place, bad_value, missing};
+use kd_wire::Entries;
 use serde_json::Value;
 use std::alloc::Global;
 
@@ -126,21 +127,24 @@ fn settings_of_lists(
     )?;
     let subnets = subnets_of(alloc, value, at, above, known)?;
     let options = without_server(alloc, options)?;
+    let order = order_of(alloc, value)?;
     Ok(Settings {
         server: above.server,
         times: above.times,
-        extensions: extensions_by(above.policy),
+        extensions: extensions_by(above.policy, order),
         options,
         classes,
         subnets,
     })
 }
 
-// Returns the extensions of the rules in a configuration of Kea's.
-fn extensions_by(policy: Policy) -> Extensions
-    ensures { result ≡ kea_extensions policy.is_authoritative (not policy.matches_client_ids) }
+// Returns the extensions of the rules in a configuration of Kea's, with this order of the kinds of
+// identities.
+fn extensions_by(policy: Policy, order: Entries<IdentityKind>) -> Extensions
+    ensures { result
+        ≡ kea_extensions policy.is_authoritative (not policy.matches_client_ids) order }
 {
-    Extensions::of_kea(policy.is_authoritative, !policy.matches_client_ids)
+    Extensions::of_kea(policy.is_authoritative, !policy.matches_client_ids, order)
 }
 
 // Checks that the value has the keys of `Dhcp4`, and that nothing in it is kept in another place.
