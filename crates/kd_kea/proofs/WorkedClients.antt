@@ -5,6 +5,7 @@ use Rattle.std.specs.Fmt.{digits}
 use Rattle.std.specs.Str.{chars, is_utf8}
 use Rattle.serde_json.proofs.OnLiterals.{serde_json_on_literals}
 use Rattle.kd_config.specs.declared.reservation.Identity.TheVariants as clients
+use Rattle.kd_config.specs.declared.reservation.IdentityKind.TheVariants as kinds
 use Rattle.kd_json.specs.Document.{value_spelled}
 use Rattle.kd_json.specs.HexText.{bytes_spelled}
 use Rattle.kd_json.specs.Values.{hex_bytes_in}
