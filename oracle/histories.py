@@ -106,8 +106,9 @@ def subnet_reservations(chance, text, taken):
     return made
 
 
-def configuration(chance):
-    prefixes = chance.choices(list(PREFIXES), [9, 6, 2, 3, 1, 1, 1], k=chance.choice([1, 1, 2, 3]))
+def configuration(chance, counts=(1, 1, 2, 3)):
+    """A configuration with as many subnets as one of these numbers."""
+    prefixes = chance.choices(list(PREFIXES), [9, 6, 2, 3, 1, 1, 1], k=chance.choice(counts))
     servers = [dotted_number(judge.prefix(prefixes[0])[0] | 1), "192.0.2.10", "203.0.113.1"]
     root = {"server-address": chance.choices(servers, [16, 1, 1])[0]}
     if chance.random() < 0.9:
@@ -258,6 +259,8 @@ def datagram(chance, root, rows, clients):
     client = chance.choice(clients) if chance.random() < 0.93 else Client(chance)
     if client.relay is None or chance.random() < 0.2:
         client.relay = some_relay(chance, root)
+    if judge.is_kea(root) and chance.random() < 0.15:
+        client.vendor = chance.choice([None, *VENDORS])
     pairs = [(53, bytes([kind]))] + message_options(chance, root, rows, client, kind)
     says_address = chance.random() < {judge.DISCOVER: 0.05, judge.REQUEST: 0.25}.get(kind, 0.85)
     ciaddr = some_address(chance, root, rows, client) if says_address else bytes(4)

@@ -143,13 +143,13 @@ def subnets_of(root):
     return shared + [(subnet, {}) for subnet in root.get("subnet4", [])]
 
 
-def class_of(subnet, network):
-    """The class of a subnet: its own, or else that of its network, or None."""
-    return subnet.get("client-class", network.get("client-class"))
+def classes_of(*holders):
+    """The classes of those of a network, a subnet and a pool that have one: a client must be in each."""
+    return [holder["client-class"] for holder in holders if "client-class" in holder]
 
 
-def has_class(name, held):
-    return name is None or name.encode() in held
+def has_classes(names, held):
+    return all(name.encode() in held for name in names)
 
 
 def relays_of(subnet, network):
@@ -163,13 +163,22 @@ def contains(subnet, wanted):
 
 
 def home_of(subnet, network):
-    """What serves where a subnet does: itself, or its network with the pools and the reservations of all its subnets."""
+    """What serves where a subnet does: itself, or its network with the pools and the reservations of all its subnets.
+
+    In a network these are only for clients in its class and in the class of their subnet, as far as there are such (`guards`)."""
     if not network:
         return subnet
     parts = network["subnet4"]
-    pools_of_parts = [{"client-class": class_of(part, network), **entry} for part in parts for entry in part.get("pools", [])]
-    reservations = [entry for part in parts for entry in part.get("reservations", [])]
-    return {"parts": parts, "network": network, "pools": pools_of_parts, "reservations": reservations}
+    guarded = {
+        key: [{**entry, "guards": classes_of(network, part)} for part in parts for entry in part.get(key, [])]
+        for key in ("pools", "reservations")
+    }
+    return {"parts": parts, "network": network, **guarded}
+
+
+def admits(entry, held):
+    """Whether a pool or a reservation is for a client that is in these classes: its own, and those that guard it in a network."""
+    return has_classes(classes_of(entry) + entry.get("guards", []), held)
 
 
 def parts_of(home):
@@ -192,7 +201,7 @@ def subnet_of(root, datagram, found, held):
     """What serves a message: where the first subnet is that admits the client and names its relay, or else contains its place."""
     relay, link = number(datagram[24:28]), selected_link(root, datagram, found)
     place = link if link is not None else relay or number(datagram[12:16]) or server_address(root)
-    admitted = [(subnet, network) for subnet, network in subnets_of(root) if has_class(class_of(subnet, network), held)]
+    admitted = [(subnet, network) for subnet, network in subnets_of(root) if has_classes(classes_of(network, subnet), held)]
     named = [each for each in admitted if relay and link is None and dotted(datagram[24:28]) in relays_of(*each)]
     for subnet, network in named or [each for each in admitted if contains(each[0], place)]:
         return home_of(subnet, network)
@@ -261,26 +270,38 @@ def said_of_client(asked):
     return {"hw-address": said["hw-address"], "duid": duid, "circuit-id": circuit, "client-id": identifier}
 
 
+def is_for(asked, entry, keys):
+    """Whether a reservation has one of these keys, with what the message says of its client."""
+    said = said_of_client(asked)
+    return any(key in entry and hexadecimal(entry[key]) == said[key] for key in keys)
+
+
 def reservation(asked):
-    """The subnet's reservation for this client, or None: the first of the subnet, or in a file of Kea's that of the first key."""
-    entries, said = asked.subnet.get("reservations", []), said_of_client(asked)
-    for keys in [[key] for key in said] if is_kea(asked.root) else [list(said)]:
-        for entry in entries:
-            if any(key in entry and hexadecimal(entry[key]) == said[key] for key in keys):
+    """The subnet's reservation for this client, or None: the first of the subnet, or in a file of Kea's that of the first key.
+
+    In a network it counts only for a client in the classes that guard it."""
+    keys = list(said_of_client(asked))
+    for kinds in [[key] for key in keys] if is_kea(asked.root) else [keys]:
+        for entry in asked.subnet.get("reservations", []):
+            if admits(entry, asked.held) and is_for(asked, entry, kinds):
                 return entry
     return None
 
 
-def for_circuit(asked, wanted):
-    """The reservation of an address, if it is for a circuit; or None."""
-    entries = [entry for entry in asked.subnet.get("reservations", []) if reserved_by(entry) == [wanted]]
-    return next((entry for entry in entries if "circuit-id" in entry), None)
+def lasting(asked, wanted):
+    """The reservation of an address by which a renewal without a relay keeps it, or None: one for a circuit, whatever its
+    classes, or one for this client that requires a class that the client is not in."""
+    for entry in asked.subnet.get("reservations", []):
+        is_its = is_for(asked, entry, list(said_of_client(asked))) and not admits(entry, asked.held)
+        if reserved_by(entry) == [wanted] and ("circuit-id" in entry or is_its):
+            return entry
+    return None
 
 
 def counting(asked, wanted):
-    """The reservation that counts for a reply with an address: the client's, or the circuit's if no relay names that; or None."""
+    """The reservation that counts for a reply with an address: the client's, or the one by which a renewal keeps it; or None."""
     is_alone = is_kea(asked.root) and asked.found[53][0] == REQUEST and len(asked.found.get(54, b"")) != 4 and not giaddr(asked)
-    behind = for_circuit(asked, wanted) if is_alone and ciaddr(asked) == wanted else None
+    behind = lasting(asked, wanted) if is_alone and ciaddr(asked) == wanted else None
     return reservation(asked) or behind
 
 
@@ -307,7 +328,7 @@ def all_reserved(root):
 
 def pools(asked):
     """The pools that the client may have addresses of."""
-    return [pool(entry["pool"]) for entry in asked.subnet.get("pools", []) if has_class(entry.get("client-class"), asked.held)]
+    return [pool(entry["pool"]) for entry in asked.subnet.get("pools", []) if admits(entry, asked.held)]
 
 
 def fits(asked, wanted):
@@ -318,10 +339,10 @@ def fits(asked, wanted):
 
 
 def lasts(asked, wanted):
-    """Whether an address may be renewed: it fits, or it is kept, in a pool for whichever class and not reserved, or for a circuit."""
+    """Whether an address may be renewed: it fits, or it is kept, in a pool for whichever class and not reserved, or by a reservation."""
     ranges = [pool(entry["pool"]) for entry in asked.subnet.get("pools", [])]
     is_in_pool = any(first <= wanted <= last for first, last in ranges) and wanted not in all_reserved(asked.root)
-    return fits(asked, wanted) or asked.keeps and (is_in_pool or for_circuit(asked, wanted) is not None)
+    return fits(asked, wanted) or asked.keeps and (is_in_pool or lasting(asked, wanted) is not None)
 
 
 def is_free(asked, wanted):

@@ -3,12 +3,13 @@
 
     networks.py SEED COUNT [--program P] [--leases]
 
-The configurations are those of histories.py, with most of their subnets in shared networks: of one to three subnets, with
-options, relays and a class of the network or of its subnets, and pools for a class. Clients come through these relays too.
-The whole server, networks, subnets, classes and reservations give values to boot fields, some of them empty. Some relays
-select a link, and some clients renew without the relay that says their class or their circuit. Some servers are authoritative,
-and some ignore client identifiers. Some reservations are by circuit or by DUID, have no address, or have options. In half of the
-files the whole server, networks, subnets and classes give lifetimes, and all but classes times of renewal or shares for them. Some
+The configurations are those of histories.py, with most of their subnets in shared networks: of one to four subnets, with
+options and relays. In most files networks, subnets and pools have classes, of which a client may need one, two or three, and
+some clients have a reservation in several subnets of a network. Clients come through these relays too, and change what puts them
+into a class. The whole server, networks, subnets, classes and reservations give values to boot fields, some of them empty. Some
+relays select a link, and some clients renew without the relay that says their class or their circuit. Some servers are
+authoritative, and some ignore client identifiers. Some reservations are by circuit or by DUID, have no address, or have options.
+In half of the files the whole server, networks, subnets and classes give lifetimes, and all but classes times of renewal or shares for them. Some
 clients ask for a lifetime.
 """
 import json
@@ -17,6 +18,14 @@ import histories
 import judge
 
 RELAYS = ["10.0.0.1", "10.0.0.2", "192.0.2.9", "198.51.100.251"]
+# Classes by what a relay says of the line, and by what clients say: some in two of them, and some in none.
+CLASSES = {
+    "line": "relay4[1].exists",
+    "x": "relay4[1].hex == 'x'",
+    "open": "relay4[1].hex == 'x' or relay4[1].hex == 'xy'",
+    "a": "option[60].hex == 'a'",
+    "ab": "substring(option[60].hex, 0, 1) == 'a'",
+}
 # Values of the keys for boot fields: those that give nothing or hide others, short ones, and the longest.
 BOOTS = {
     "next-server": ["", "0.0.0.0", "0.0.0.0", "10.9.8.7", "192.0.2.200", "255.255.255.254"],
@@ -34,24 +43,46 @@ def some_relays(chance):
     return {"relay": {"ip-addresses": chance.sample(RELAYS, chance.choice([1, 1, 2]))}} if chance.random() < 0.3 else {}
 
 
-def with_classes(chance, subnet, names):
-    """The subnet, perhaps with pools for a class; if it has one itself, without those and without reservations."""
-    if "client-class" in subnet:
-        subnet.pop("reservations", None)
-    for entry in subnet["pools"]:
-        if "client-class" not in subnet and chance.random() < 0.25:
-            entry["client-class"] = chance.choice(names)
-    return subnet
+def guard(chance, holder, names, often):
+    """Gives a network, a subnet or a pool a class; or none."""
+    holder.pop("client-class", None)
+    if chance.random() < often:
+        holder["client-class"] = chance.choice(names)
 
 
-def network(chance, number, subnets, names):
+def with_guards(chance, root):
+    """The configuration with classes of its networks, subnets and pools, so that a client may need several at once."""
+    often = chance.choice([0, 0.2, 0.4, 0.7])
+    defined = [entry["name"] for entry in root["client-classes"]]
+    names = defined + [name for name in defined if name in CLASSES] * 2 + ["ALL", "VENDOR_CLASS_b", "none"]
+    for holder in root["shared-networks"]:
+        guard(chance, holder, names, often / 2)
+    for subnet, _ in judge.subnets_of(root):
+        guard(chance, subnet, names, often)
+        for entry in subnet["pools"]:
+            guard(chance, entry, names, often / 2)
+    return root
+
+
+def with_doubles(chance, root):
+    """The configuration with reservations of one client in several subnets of a network."""
+    often = chance.choice([0, 0.3, 0.7])
+    kept = set(judge.all_reserved(root))
+    for network_of_all in root["shared-networks"]:
+        client = chance.choice(histories.MACS[:3]).hex()
+        for subnet in network_of_all["subnet4"]:
+            wanted = histories.near(chance, subnet["subnet"], 10)
+            is_there = any(entry.get("hw-address") == client for entry in subnet["reservations"])
+            if chance.random() < often and wanted not in kept and not is_there:
+                kept.add(wanted)
+                entry = {"hw-address": client, "ip-address": histories.dotted_number(wanted)}
+                subnet["reservations"].insert(chance.choice([0, len(subnet["reservations"])]), entry)
+    return root
+
+
+def network(chance, number, subnets):
     """A shared network of these subnets."""
-    made = {"name": f"link {number}", **histories.options(chance, 0.4), **some_relays(chance)}
-    free = all("client-class" not in each and not each["reservations"] for each in subnets)
-    if free and chance.random() < 0.3:
-        made["client-class"] = chance.choice(names)
-        return {**made, "subnet4": subnets}
-    return {**made, "subnet4": [with_classes(chance, each, names) for each in subnets]}
+    return {"name": f"link {number}", **histories.options(chance, 0.4), **some_relays(chance), "subnet4": subnets}
 
 
 def with_hosts(chance, root):
@@ -150,25 +181,24 @@ def with_all_times(chance, root):
 
 def configuration(chance):
     """A configuration of histories.py in Kea's form, apart from the keys of kea_words."""
-    root = histories.configuration(chance)
+    root = histories.configuration(chance, (1, 2, 2, 3, 4))
     for key in ("renew-timer", "rebind-timer"):
         root.pop(key, None)
-    lines = [{"name": "line", "test": "relay4[1].exists"}] if chance.random() < 0.5 else []
-    root["client-classes"] += lines
+    root["client-classes"] += [{"name": name, "test": test} for name, test in CLASSES.items() if chance.random() < 0.5]
     if chance.random() < 0.4:
         root["authoritative"] = chance.choice([True, True, False])
     if chance.random() < 0.4:
         root["match-client-id"] = chance.choice([False, False, True])
-    names = [entry["name"] for entry in root["client-classes"] + lines * 3] + ["ALL", "VENDOR_CLASS_b", "none"]
     subnets = [{**subnet, **some_relays(chance)} for subnet in root["subnet4"]]
     root["shared-networks"], root["subnet4"] = [], []
     while subnets:
-        count = chance.choice([0, 1, 2, 2, 3])
+        count = chance.choice([0, 1, 2, 2, 3, 4])
         taken, subnets = subnets[: count or 1], subnets[count or 1 :]
         if count:
-            root["shared-networks"].append(network(chance, len(root["shared-networks"]), taken, names))
+            root["shared-networks"].append(network(chance, len(root["shared-networks"]), taken))
         else:
             root["subnet4"] += taken
+    root = with_doubles(chance, with_guards(chance, root))
     return with_all_times(chance, with_boot_keys(chance, with_hosts(chance, root)))
 
 
