@@ -149,6 +149,7 @@ class Client:
         self.identifier = chance.choices([None, b""] + IDENTIFIERS + [bytes(280)], [12, 1, 2, 2, 2, 1, 1, 0.1])[0]
         self.vendor = chance.choice([None, None] + VENDORS)
         self.relay = None
+        self.circuit = b""
 
     def identity(self, root):
         kind_and_address = bytes([0, self.htype]) + self.hardware.ljust(16, b"\0")[: min(self.hlen, 16)]
@@ -156,9 +157,17 @@ class Client:
         return b"\x01" + self.identifier if self.identifier and not is_by_hardware else kind_and_address
 
 
+def own_reserved(root, client):
+    """The addresses that are reserved for a client by its hardware address or its identifier."""
+    own = {client.hardware.hex(), (client.identifier or b"").hex()}
+    entries = [entry for subnet, _ in judge.subnets_of(root) for entry in subnet["reservations"]]
+    return [each for entry in entries if own & {entry.get("hw-address"), entry.get("client-id")} for each in judge.reserved_by(entry)]
+
+
 def some_address(chance, root, rows, client):
     """An address that is likely to matter: of a row, of a pool or next to it, of a reservation, or a random one."""
     own = [row.address for row in rows if row.client == client.identity(root)]
+    own += own_reserved(root, client) if judge.is_kea(root) and chance.random() < 0.5 else []
     pools = [judge.pool(entry["pool"]) for subnet, _ in judge.subnets_of(root) for entry in subnet["pools"]]
     likely = [row.address for row in rows] + judge.all_reserved(root)
     likely += [each for first, last in pools for each in (first - 1, first, last, last + 1)]
@@ -219,11 +228,11 @@ def message_options(chance, root, rows, client, kind):
     if chance.random() < 0.25:
         sizes = [0, 1, 5, 40, 260, 276, 277, 294, 295, 600]
         pairs.append((82, chance.choice([b"\x01\x01x", b"\x01\x00", chance.randbytes(chance.choice(sizes))])))
-    if judge.is_kea(root) and chance.random() < 0.5:
+    if judge.is_kea(root) and chance.random() < (0.8 if any(client.relay) else 0.5):
         link = some_address(chance, root, rows, client)
         link = written(5, chance.choice([link, link, link, link[:3], link + b"\0"]))
         pairs = [pair for pair in pairs if pair[0] != 82]
-        pairs.append((82, chance.choice([b"", b"\x01\x01x", b"\x01\x01x", b"\x01\x02xy"]) + chance.choice([b"", b"", link])))
+        pairs.append((82, client.circuit + chance.choice([b"", b"", link])))
     if judge.is_kea(root) and chance.random() < 0.3:
         pairs.append((51, some_wish(chance, root)))
     return pairs
@@ -261,14 +270,21 @@ def datagram(chance, root, rows, clients):
         client.relay = some_relay(chance, root)
     if judge.is_kea(root) and chance.random() < 0.15:
         client.vendor = chance.choice([None, *VENDORS])
+    if judge.is_kea(root) and chance.random() < 0.4:
+        client.circuit = chance.choice([b"", b"\x01\x01x", b"\x01\x01x", b"\x01\x02xy"])
     pairs = [(53, bytes([kind]))] + message_options(chance, root, rows, client, kind)
     says_address = chance.random() < {judge.DISCOVER: 0.05, judge.REQUEST: 0.25}.get(kind, 0.85)
     ciaddr = some_address(chance, root, rows, client) if says_address else bytes(4)
     relay = client.relay
     own = [row.address for row in rows if row.client == client.identity(root) and row.state == "Bound"]
-    if judge.is_kea(root) and kind == judge.REQUEST and own and chance.random() < 0.3:
+    reserved, place = own_reserved(root, client), chance.random()
+    if judge.is_kea(root) and kind == judge.REQUEST and own and place < 0.4:
         ciaddr, relay = chance.choice(own).to_bytes(4, "big"), bytes(4)
-        pairs = [pair for pair in pairs if pair[0] != 54]
+        left_out = chance.choice([(54,), (54, 82)])
+        pairs = [pair for pair in pairs if pair[0] not in left_out]
+    elif judge.is_kea(root) and kind == judge.REQUEST and reserved and place > 0.6:
+        chosen = [(50, chance.choice(reserved).to_bytes(4, "big")), (54, address(root["server-address"]))]
+        pairs = [pair for pair in pairs if pair[0] not in (50, 54)] + chosen
     op = chance.choices([1, 2, 3], [97, 2, 1])[0]
     flags = chance.choice([bytes(2), bytes(2), b"\x80\x00", b"\x7f\xff", b"\x81\x23"])
     others = chance.choice([bytes(8), bytes(8), chance.randbytes(8)])

@@ -54,7 +54,7 @@ def with_guards(chance, root):
     """The configuration with classes of its networks, subnets and pools, so that a client may need several at once."""
     often = chance.choice([0, 0.2, 0.4, 0.7])
     defined = [entry["name"] for entry in root["client-classes"]]
-    names = defined + [name for name in defined if name in CLASSES] * 2 + ["ALL", "VENDOR_CLASS_b", "none"]
+    names = defined + [name for name in defined if name in CLASSES] * 3 + ["ALL", "VENDOR_CLASS_b", "none"]
     for holder in root["shared-networks"]:
         guard(chance, holder, names, often / 2)
     for subnet, _ in judge.subnets_of(root):
@@ -65,18 +65,18 @@ def with_guards(chance, root):
 
 
 def with_doubles(chance, root):
-    """The configuration with reservations of one client in several subnets of a network."""
-    often = chance.choice([0, 0.3, 0.7])
+    """The configuration with reservations of some clients in several subnets of a network."""
+    often = chance.choice([0, 0.4, 0.8])
     kept = set(judge.all_reserved(root))
     for network_of_all in root["shared-networks"]:
-        client = chance.choice(histories.MACS[:3]).hex()
-        for subnet in network_of_all["subnet4"]:
-            wanted = histories.near(chance, subnet["subnet"], 10)
-            is_there = any(entry.get("hw-address") == client for entry in subnet["reservations"])
-            if chance.random() < often and wanted not in kept and not is_there:
-                kept.add(wanted)
-                entry = {"hw-address": client, "ip-address": histories.dotted_number(wanted)}
-                subnet["reservations"].insert(chance.choice([0, len(subnet["reservations"])]), entry)
+        for client in chance.sample(histories.MACS, 3):
+            for subnet in network_of_all["subnet4"]:
+                wanted = histories.near(chance, subnet["subnet"], 10)
+                is_there = any(entry.get("hw-address") == client.hex() for entry in subnet["reservations"])
+                if chance.random() < often and wanted not in kept and not is_there:
+                    kept.add(wanted)
+                    entry = {"hw-address": client.hex(), "ip-address": histories.dotted_number(wanted)}
+                    subnet["reservations"].insert(chance.choice([0, len(subnet["reservations"])]), entry)
     return root
 
 
