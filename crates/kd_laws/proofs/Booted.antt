@@ -2,7 +2,7 @@
 -- nothing to them.
 use Rattle.std.proofs.Common.{◌≡◌, ℕ, zero, suc, ◌<◌, ◌^◌, ◌==◌, Bool, true, false, List, [], ◌∷◌, ◌++◌, Option, None, Some, refl, sym, ap, subst, ◌∙◌, arith, filter, if◌then◌else◌, map}
 use Rattle.std.specs.Prelude.{IfSome, replicate, unwrap_or}
-use Rattle.std.specs.List.{AllByRecursion, find}
+use Rattle.std.specs.List.{AllByRecursion}
 use Rattle.std.specs.Option.{option_or}
 use Rattle.std.proofs.lemmas.List.{length-replicate}
 use Rattle.kd_classes.specs.Boot.{boot_or, first_boot, no_boot}
@@ -15,7 +15,7 @@ use Rattle.kd_config.specs.declared.reservation.Reservation.{Reservation}
 use Rattle.kd_config.specs.declared.subnet.Subnet.{Subnet}
 use Rattle.kd_lease.specs.Kept.{reservation_at}
 use Rattle.kd_lease.specs.Booting.{boots_given, boots_reserved, class_boots, fields_in, fields_of, reply_fields}
-use Rattle.kd_lease.specs.Choice.{Asking, is_from}
+use Rattle.kd_lease.specs.Choice.{Asking}
 use Rattle.kd_lease.specs.Rules.{serving_subnet}
 use Rattle.kd_lease.specs.declared.booting.BootFields.{BootFields}
 use Rattle.kd_lease.specs.declared.plan.PlanKind.{PlanKind}
@@ -24,7 +24,7 @@ use Rattle.kd_machine.specs.Parts.{is_held}
 use Rattle.kd_options.specs.Laws.{IsField}
 use Rattle.kd_options.specs.Message.{AreBytes, Seen}
 use Rattle.kd_laws.proofs.Homes.{Serves, ServesClient, all_serve, part_serves, serving_serves}
-use Rattle.kd_lease.proofs.Served.{at_part, at_serving, each-append, flat-each}
+use Rattle.kd_lease.proofs.Served.{at_part, at_serving, each-append, flat-each, map-each}
 use Rattle.kd_laws.proofs.Hosts.{counting_each}
 use Rattle.kd_laws.specs.Unbooted.{BootFieldsAreZero, GivesNoBoot, IsUnbooted}
 

@@ -1,14 +1,12 @@
 -- The subnet in which a message is served, be it a subnet of the configuration or a shared network
 -- as one: its addresses have 32 bits, and its options are such as may be configured.
-use Rattle.std.proofs.Common.{◌≡◌, ℕ, zero, suc, ◌+◌, ◌-◌, ◌^◌, ◌<◌, Bool, true, false, ◌&&◌, ◌==◌, nat_eq, nat_le, nat_lt, not, List, [], ◌∷◌, ◌++◌, Option, None, Some, if◌then◌else◌, map, slice_get, subst, arith}
-use Rattle.std.specs.Prelude.{IfSome, option_map}
-use Rattle.std.specs.Option.{option_or}
-use Rattle.std.specs.List.{AllByRecursion, find, flat_map, list_all, list_any, range_with_len}
+use Rattle.std.proofs.Common.{◌≡◌, ℕ, ◌+◌, ◌^◌, ◌<◌, Bool, true, false, ◌&&◌, ◌==◌, nat_eq, nat_le, nat_lt, not, List, [], ◌∷◌, ◌++◌, Option, Some, if◌then◌else◌, map, subst, arith}
+use Rattle.std.specs.Prelude.{IfSome}
+use Rattle.std.specs.List.{AllByRecursion, list_all, list_any}
 use Rattle.std.proofs.lemmas.Bool.{and_parts, ltb-true}
 use Rattle.kd_config.specs.Address.{has_address, prefix_size}
 use Rattle.kd_config.specs.Apart.{lie_apart}
-use Rattle.kd_config.specs.Configuration.{Configuration}
-use Rattle.kd_config.specs.Networks.{home_of, is_part, network_at, network_count, network_of, networks_in, part_holding, pool_for, pools_within, reservation_for, reservations_within, value_or}
+use Rattle.kd_config.specs.Networks.{network_of, part_holding, pool_for, pools_within, reservation_for, reservations_within}
 use Rattle.kd_config.specs.Rules.{all_obey, is_new, lies_within, may_all_reserve, may_have, may_reserve, may_stand, obeys, pool_ranges, reserved}
 use Rattle.kd_config.specs.Sound.{AreOptions, IsBoot, IsPool, IsPrefix, IsReservation, IsSound, IsSubnet}
 use Rattle.kd_config.specs.declared.pool.Pool.{Pool}
@@ -19,8 +17,7 @@ use Rattle.kd_config.specs.declared.reservation.Reservation.{Reservation}
 use Rattle.kd_config.specs.declared.subnet.Subnet.{Subnet}
 use Rattle.kd_lease.specs.Choice.{Asking}
 use Rattle.kd_lease.specs.Rules.{serving_subnet}
-use Rattle.kd_options.specs.Message.{Seen}
-use Rattle.kd_lease.proofs.Served.{at_part, at_serving, each-append, find-each, flat-each, map-each}
+use Rattle.kd_lease.proofs.Served.{at_part, at_serving, flat-each, map-each}
 
 -- a pool: its options may be configured, and its addresses have 32 bits
 pub record ServesPool (pool : Pool) : Type 0 where

@@ -1,13 +1,13 @@
 -- The times that leases get: a message gets those of one table alone, and the lifetimes of a
 -- configuration bound them.
-use Rattle.std.proofs.Common.{◌≡◌, ℕ, ◌≤◌, ◌==◌, Bool, true, false, List, [], ◌∷◌, Option, Some, None, refl, sym, ap, subst, ◌∙◌, max, min, if◌then◌else◌, arith}
+use Rattle.std.proofs.Common.{◌≡◌, ℕ, ◌≤◌, ◌==◌, Bool, true, false, List, Option, Some, None, refl, sym, ap, subst, ◌∙◌, max, min, if◌then◌else◌, arith}
 use Rattle.std.specs.Prelude.{IfSome}
 use Rattle.std.specs.List.{AllByRecursion}
 use Rattle.std.proofs.lemmas.Option.{same_Some}
 use Rattle.kd_classes.specs.Lifetime.{lifetime_granted}
 use Rattle.kd_classes.specs.declared.lifetime.Lifetime.{Lifetime}
 use Rattle.kd_config.specs.Configuration.{Configuration}
-use Rattle.kd_config.specs.Networks.{network_of, part_holding}
+use Rattle.kd_config.specs.Networks.{network_of}
 use Rattle.kd_config.specs.declared.subnet.Subnet.{Subnet}
 use Rattle.kd_config.specs.declared.times.Times.{Times}
 use Rattle.kd_lease.proofs.Served.{at_part, at_serving}
@@ -23,7 +23,7 @@ use Rattle.kd_lease.specs.declared.plan.PlanKind.TheVariants as kinds
 use Rattle.kd_options.specs.Message.{Seen}
 use Rattle.kd_rows.specs.declared.row.Row.{Row}
 use Rattle.kd_laws.specs.Granted.{AreGranted, IsNoShorter, LeasesLastAlike, NoneIsShorter}
-use Rattle.kd_laws.specs.NoOverlap.{GivesLease, Happens, LastsFor, LeaseStep, LeasesLast, now_of}
+use Rattle.kd_laws.specs.NoOverlap.{Happens, LastsFor, LeasesLast, now_of}
 
 -- the times that are granted are determined
 pub granted_once : OneHeld → (config : Configuration) (rows : List Row) (m : Seen) (now a : ℕ) (times others : Times)

@@ -16,7 +16,7 @@ use Rattle.kd_config.specs.declared.reservation.Reservation.{Reservation}
 use Rattle.kd_config.specs.declared.subnet.Subnet.{Subnet}
 use Rattle.kd_config.specs.declared.times.Times.{Times}
 use Rattle.kd_lease.specs.Kept.{reservation_at}
-use Rattle.kd_lease.specs.Choice.{Asking, is_from}
+use Rattle.kd_lease.specs.Choice.{Asking}
 use Rattle.kd_lease.specs.Client.{wants_option}
 use Rattle.kd_lease.specs.Given.{always_has, class_options, configured, configured_at, configured_options, given, mask_option, options_in, options_of_pool, options_reserved, reserved_options, value_in}
 use Rattle.kd_lease.specs.Plan.{ReplyOption}
