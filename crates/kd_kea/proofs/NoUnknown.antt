@@ -400,7 +400,7 @@ subnet_pass above around fits known d subnet path e =
     (none_in_both keyed values (own_pass subnet_keys path d form.keys) (subnet_values_pass above around fits path d prefix.first form.policy prefix.is link.0))
     (term_pass around.keys above.keys within.first.keys path d fits.keys inside.keys))
     (subnet_own_pass above path d prefix.first class.first within.first.outside form prefix.is class.is inside.outside (inside.noted path)))
-    (beside_pass around.outside around.kinds above.outside around.bare known within.first prefix.first (unless_empty class.first) path d subnet fits.outside inside.outside same_kinds same_bare within.gives))
+    (beside_pass around.outside around.kinds above.outside around.bare known within.first prefix.first (class_list (unless_empty class.first)) path d subnet fits.outside inside.outside same_kinds same_bare within.gives))
     (none_in_both (options ++ pools ++ hosts) relay
     (none_in_both (options ++ pools) hosts
     (none_in_both options pools lists.options lists.pools)

@@ -85,10 +85,13 @@ abbrev pub subnet_note : List ℕ → Prefix → Option (List ℕ) → List ℕ
 subnet_note name prefix None = []
 subnet_note name prefix (Some words) = subnet_text name prefix words
 
+-- the line about a class that a subnet requires, if something is wrong with that
+abbrev pub subnet_class_note : List ℕ → Configuration → Prefix → List ℕ → List ℕ
+subnet_class_note name config prefix class = subnet_note name prefix (class_trouble config class)
+
 -- the lines about the classes that a subnet requires
 abbrev pub subnet_class_notes : List ℕ → Configuration → Subnet → List ℕ
-subnet_class_notes name config s =
-    flat_map (λ class. subnet_note name s.prefix (class_trouble config class)) s.classes
+subnet_class_notes name config s = flat_map (subnet_class_note name config s.prefix) s.classes
 
 -- ---- the pools of a subnet
 
@@ -107,10 +110,13 @@ abbrev pub pool_class_note : List ℕ → Pool → Option (List ℕ) → List �
 pool_class_note name pool None = []
 pool_class_note name pool (Some words) = pool_class_text name pool words
 
+-- the line about a class that a pool requires, if something is wrong with that
+abbrev pub required_note : List ℕ → Configuration → Pool → List ℕ → List ℕ
+required_note name config pool class = pool_class_note name pool (class_trouble config class)
+
 -- the lines about the classes that a pool requires
 abbrev pub pool_class_notes : List ℕ → Configuration → Pool → List ℕ
-pool_class_notes name config pool =
-    flat_map (λ class. pool_class_note name pool (class_trouble config class)) pool.classes
+pool_class_notes name config pool = flat_map (required_note name config pool) pool.classes
 
 -- the line about an address in a pool
 unfoldable pub pool_text : List ℕ → Pool → ℕ → List ℕ → List ℕ

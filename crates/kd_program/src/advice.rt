@@ -1,8 +1,8 @@
 ghost use Rattle.std.specs.Prelude.{◌≡◌, ◌++◌, ◌||◌, Bool, OnOk, Result, is_some, option_copied, option_map, string_bytes};
 ghost use Rattle.std.specs.List.{flat_map, list_any};
 ghost use Rattle.kd_trouble.specs.declared.troubles.SocketTrouble.{SocketTrouble};
-ghost use Rattle.kd_program.specs.Advice.{IsFoundMissing, address_advice, advice_lines, all_subnets_advice, asks_relay, class_trouble, def_asks, defined, is_absent, last_of, network_lines, pool_advice, pool_class_note, pool_class_notes, pool_class_text, pool_name, pool_note};
-ghost use Rattle.kd_program.specs.Advice.{pool_text, server_advice, server_text, subnet_advice, subnet_class_notes, subnet_note, subnet_text, test_asks};
+ghost use Rattle.kd_program.specs.Advice.{IsFoundMissing, address_advice, advice_lines, all_subnets_advice, asks_relay, class_trouble, def_asks, defined, is_absent, last_of, network_lines, pool_advice, pool_class_notes, pool_class_text, pool_name, pool_note};
+ghost use Rattle.kd_program.specs.Advice.{pool_text, required_note, server_advice, server_text, subnet_advice, subnet_class_note, subnet_class_notes, subnet_text, test_asks};
 
 use crate::hiding::put_hidden;
 use crate::host::Host;
@@ -11,6 +11,7 @@ use kd_config::{Config, Pool, Prefix, Subnet};
 use kd_text::{put_address, put_prefix};
 use kd_token::{Token, Verified};
 use kd_trouble::SocketTrouble;
+use kd_wire::Bytes;
 use std::alloc::AllocError;
 
 // The first address that no host can have: multicast (RFC 1112), reserved ones and broadcast.
@@ -152,7 +153,7 @@ fn put_classes(
         ++ subnet_class_notes name.now config.now subnet.now) }
 {
     for class in subnet.classes.as_slice() {
-        put_class(text, name, config, subnet.prefix, class.as_slice())?;
+        put_class(text, name, config, subnet.prefix, class)?;
     }
     Ok(())
 }
@@ -162,12 +163,12 @@ fn put_class(
     name: &str,
     config: &Config,
     prefix: Prefix,
-    class: &[u8],
+    class: &Bytes,
 ) -> Result<(), AllocError>
     ensures { OnOk result (string_bytes text.new ≡ string_bytes text.old
-        ++ subnet_note name.now prefix (class_trouble config.now class.now)) }
+        ++ subnet_class_note name.now config.now prefix class.now) }
 {
-    match trouble_with(config, class) {
+    match trouble_with(config, class.as_slice()) {
         Some(words) => put_subnet_line(text, name, prefix, words),
         None => Ok(()),
     }
@@ -318,7 +319,7 @@ fn put_pool_classes(
         ++ pool_class_notes name.now config.now pool.now) }
 {
     for class in pool.classes.as_slice() {
-        put_pool_class(text, name, config, pool, class.as_slice())?;
+        put_pool_class(text, name, config, pool, class)?;
     }
     Ok(())
 }
@@ -328,12 +329,12 @@ fn put_pool_class(
     name: &str,
     config: &Config,
     pool: &Pool,
-    class: &[u8],
+    class: &Bytes,
 ) -> Result<(), AllocError>
     ensures { OnOk result (string_bytes text.new ≡ string_bytes text.old
-        ++ pool_class_note name.now pool.now (class_trouble config.now class.now)) }
+        ++ required_note name.now config.now pool.now class.now) }
 {
-    match trouble_with(config, class) {
+    match trouble_with(config, class.as_slice()) {
         Some(words) => put_pool_class_line(text, name, pool, words),
         None => Ok(()),
     }

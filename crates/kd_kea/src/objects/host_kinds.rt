@@ -1,4 +1,5 @@
 ghost use Rattle.std.specs.Prelude.{◌≡◌, ◌&&◌, ◌++◌, IfOk, OnOk, codes, not};
+ghost use Rattle.std.specs.List.{find};
 ghost use Rattle.serde_json.specs.Find.{get};
 ghost use Rattle.serde_json.specs.View.{items_view, view};
 ghost use Rattle.kd_json.specs.Gives.{Means};
@@ -166,7 +167,15 @@ fn comes_again(name: &Value, others: &[Value]) -> bool
 fn kind_of_name(name: &Value) -> Option<IdentityKind>
     ensures { result ≡ kind_named (view name.now) }
 {
-    match all_kinds().iter().find(|kind| is_name(**kind, name)) {
+    kind_among(all_kinds(), name)
+}
+
+// Returns the first of these kinds that has a name, if one has.
+fn kind_among(kinds: &[IdentityKind], name: &Value) -> Option<IdentityKind>
+    ensures { result
+        ≡ find (λ kind. is_plain (word (kind_key kind)) (view name.now)) kinds.now }
+{
+    match kinds.iter().find(|kind| is_name(**kind, name)) {
         Some(kind) => Some(*kind),
         None => None,
     }

@@ -1,8 +1,8 @@
 use Rattle.std.proofs.Common.{◌≡◌, ◌++◌, take}
 use Rattle.std.specs.Prelude.{string_bytes}
 use Rattle.std.specs.List.{flat_map}
-use Rattle.kd_program.specs.Advice.{class_trouble, subnet_note}
+use Rattle.kd_program.specs.Advice.{subnet_class_note}
 use Rattle.kd_program.proofs.advice.put_classes.Given as goal
 
 abbrev pub invariant-loop-class : goal.invariant-loop-class
-invariant-loop-class l = string_bytes l.text ≡ string_bytes l.initial.text ++ flat_map (λ class. subnet_note l.name l.subnet.prefix (class_trouble l.config class)) (take l.class-index l.subnet.classes)
+invariant-loop-class l = string_bytes l.text ≡ string_bytes l.initial.text ++ flat_map (subnet_class_note l.name l.config l.subnet.prefix) (take l.class-index l.subnet.classes)
