@@ -175,10 +175,12 @@ fn kind_among(kinds: &[IdentityKind], name: &Value) -> Option<IdentityKind>
     ensures { result
         ≡ find (λ kind. is_plain (word (kind_key kind)) (view name.now)) kinds.now }
 {
-    match kinds.iter().find(|kind| is_name(**kind, name)) {
-        Some(kind) => Some(*kind),
-        None => None,
+    for kind in kinds {
+        if is_name(*kind, name) {
+            return Some(*kind);
+        }
     }
+    None
 }
 
 // Reports whether a value is the name of a kind of identity.
