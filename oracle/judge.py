@@ -197,10 +197,16 @@ def selected_link(root, datagram, found):
     return number(link) if is_kea(root) and number(datagram[24:28]) and len(link) == 4 else None
 
 
+def place_of_message(root, datagram, found):
+    """The address that picks the subnet: the selected link, the relay, the client's own address, or that of the server."""
+    link = selected_link(root, datagram, found)
+    return link if link is not None else number(datagram[24:28]) or number(datagram[12:16]) or server_address(root)
+
+
 def subnet_of(root, datagram, found, held):
     """What serves a message: where the first subnet is that admits the client and names its relay, or else contains its place."""
     relay, link = number(datagram[24:28]), selected_link(root, datagram, found)
-    place = link if link is not None else relay or number(datagram[12:16]) or server_address(root)
+    place = place_of_message(root, datagram, found)
     admitted = [(subnet, network) for subnet, network in subnets_of(root) if has_classes(classes_of(network, subnet), held)]
     named = [each for each in admitted if relay and link is None and dotted(datagram[24:28]) in relays_of(*each)]
     for subnet, network in named or [each for each in admitted if contains(each[0], place)]:
@@ -692,21 +698,26 @@ def judge(asked):
     return ("quiet 11 ReplyTooLong", None) if reply is None else (reply, row)
 
 
-def handle(root, rows, moment, datagram):
-    """The line of an event, and the rows after it."""
+def asked_of(root, rows, moment, datagram):
+    """A message with all that is needed to decide its reply, or else the words after the time in the line of its event."""
     now = moment_of(rows, moment)
     found = readable(datagram)
     reason = unheard(datagram, found)
     if reason is not None:
-        return f"{now} {reason}", rows
+        return reason
     held = classes(root, {}, datagram, found)
     if b"DROP" in held:
-        return f"{now} quiet 4 DropClass", rows
+        return "quiet 4 DropClass"
     kept = kept_subnet(root, rows, now, datagram, found)
     subnet = kept or subnet_of(root, datagram, found, held)
-    asked = Asked(root, rows, now, datagram, found, held, subnet, kept is not None, identity(root, datagram, found))
-    words, row = judge(asked)
-    return f"{now} {words}", rows if row is None else rows.with_row(row)
+    return Asked(root, rows, now, datagram, found, held, subnet, kept is not None, identity(root, datagram, found))
+
+
+def handle(root, rows, moment, datagram):
+    """The line of an event, and the rows after it."""
+    asked = asked_of(root, rows, moment, datagram)
+    words, row = judge(asked) if isinstance(asked, Asked) else (asked, None)
+    return f"{moment_of(rows, moment)} {words}", rows if row is None else rows.with_row(row)
 
 
 def event_of(line):

@@ -1,8 +1,10 @@
 #!/usr/bin/env python3
-"""Explains each event of random histories of histories.py: whys.py SEED COUNT [--program P] [--jobs N]
+"""Explains each event of random histories: whys.py SEED COUNT [--networks] [--program P] [--jobs N]
 
-For each event, the explanation of `kdhcp replay --why` must end with the line of judge.py. For the last event, `kdhcp why`
-with a store after the events before it must print the same explanation, and leave the store's leases unchanged.
+The histories are those of histories.py, or with --networks those of networks.py. For each event, the explanation of
+`kdhcp replay --why` must end with the line of judge.py, and say why subnets are passed over and whether the address fits as the
+judge's rules do. For the last event, `kdhcp why` with a store after the events before it must print the same explanation, and
+leave the store's leases unchanged.
 """
 import argparse
 import json
@@ -13,8 +15,10 @@ import subprocess
 import sys
 import tempfile
 
+import histories
 import judge
-from histories import ROOT, history
+import networks
+from histories import ROOT
 
 
 def run(program, words, text=""):
@@ -22,14 +26,66 @@ def run(program, words, text=""):
     return (done.stdout + done.stderr).decode().splitlines()
 
 
-def explained(program, path, events, number):
+def passed_over(asked):
+    """Why each subnet is passed over, up to the one that serves: by its place, or by the first class that the client lacks."""
+    root, relay = asked.root, judge.dotted(asked.datagram[24:28])
+    place = judge.place_of_message(root, asked.datagram, asked.found)
+    link = judge.selected_link(root, asked.datagram, asked.found)
+    pairs = judge.subnets_of(root)
+    naming = [pair for pair in pairs if judge.giaddr(asked) and link is None and relay in judge.relays_of(*pair)]
+    is_named = any(judge.has_classes(judge.classes_of(*pair), asked.held) for pair in naming)
+    for subnet, network in pairs:
+        lacking = [name for name in judge.classes_of(subnet, network) if name.encode() not in asked.held]
+        if is_named and (subnet, network) not in naming:
+            yield f"{relay} is no relay of it"
+        elif not is_named and not judge.contains(subnet, place):
+            yield f"{histories.dotted_number(place)} is outside"
+        elif lacking:
+            yield f"the client is not in class {lacking[0]}"
+        else:
+            return
+
+
+def reserved_words(asked, wanted):
+    """Whom an address is reserved for."""
+    entry = judge.lasting(asked, wanted)
+    if wanted == judge.reserved(asked):
+        return "reserved for the client"
+    if entry is not None:
+        return "reserved for a circuit" if "circuit-id" in entry else "reserved for the client in its classes"
+    return "reserved otherwise" if wanted in judge.all_reserved(asked.root) else "not reserved"
+
+
+def fits_line(asked):
+    """The line that says whether the address of a REQUEST fits."""
+    is_chosen = 54 in asked.found
+    wanted = judge.requested(asked) if is_chosen else judge.ciaddr(asked) or judge.requested(asked)
+    all_pools = [judge.pool(entry["pool"]) for entry in asked.subnet.get("pools", [])]
+    is_in, is_given = (any(first <= wanted <= last for first, last in them) for them in (all_pools, judge.pools(asked)))
+    is_fit = judge.fits(asked, wanted) if is_chosen else judge.lasts(asked, wanted)
+    where = "in a pool" if is_given else "in a pool of another class" if is_in else "in no pool"
+    end = ", the client keeps its lease" if asked.keeps and not is_chosen else ""
+    return f"check fits: {'yes' if is_fit else 'no'}, {where}, {reserved_words(asked, wanted)}{end}"
+
+
+def is_explained(root, rows, event, lines):
+    """Whether the lines about passed over subnets and the one about the address are those of the rules."""
+    asked = judge.asked_of(root, rows, *event)
+    if not isinstance(asked, judge.Asked):
+        return True
+    over = [line.split(" passed over: ")[1] for line in lines if " passed over: " in line]
+    fits = [line for line in lines if line.startswith("check fits: ")]
+    return over == ([] if asked.keeps else [*passed_over(asked)]) and all(line == fits_line(asked) for line in fits)
+
+
+def explained(program, files, events, number):
     text = "".join(f"{event}\n" for event in events)
-    return run(program, ["replay", "--config", path, "--why", str(number)], text)
+    return run(program, ["replay", *files, "--why", str(number)], text)
 
 
-def over_store(program, folder, path, events):
+def over_store(program, folder, files, events):
     """The explanation of the last event with the store after those before it, and whether --live agrees and no lease changed."""
-    files = ["--config", path, "--store", os.path.join(folder, "leases.db")]
+    files = [*files, "--store", os.path.join(folder, "leases.db")]
     text = "".join(f"{event}\n" for event in events[:-1])
     run(program, ["replay", *files], text)
     moment, datagram = events[-1].split(" ")
@@ -40,21 +96,21 @@ def over_store(program, folder, path, events):
     return lines, lines == live and before == run(program, leases)
 
 
-def differs(program, seed):
+def differs(program, seed, of_networks):
     """The first error of a history, or None; and the number of its events."""
-    root, events, (lines, _, fault) = history(random.Random(seed))
-    wanted = lines + ([fault] if fault else [])
+    source = networks if of_networks else histories
+    root, events, (lines, _, fault) = source.history(random.Random(seed))
+    wanted, rows = lines + ([fault] if fault else []), judge.Rows()
     with tempfile.TemporaryDirectory() as folder:
-        path = os.path.join(folder, "config.json")
-        with open(path, "w", encoding="utf-8") as file:
-            json.dump({"Dhcp4": root}, file)
+        files = (networks.kea_words if of_networks else histories.words_of)(root, os.path.join(folder, "config.json"))
         for number, line in enumerate(wanted, 1):
-            came = explained(program, path, events, number)
-            if came[-1:] != [line]:
-                return (seed, number, came, line), 0
+            came, event = explained(program, files, events, number), judge.event_of(events[number - 1])
+            if came[-1:] != [line] or line != fault and not is_explained(root, rows, event, came):
+                return (seed, number, json.dumps(root), events[number - 1], came, line), 0
+            rows = rows if line == fault else judge.handle(root, rows, *event)[1]
         if not fault:
-            came, kept = over_store(program, folder, path, events)
-            if came[-1:] != wanted[-1:] or not kept or came != explained(program, path, events, len(events)):
+            came, kept = over_store(program, folder, files, events)
+            if came[-1:] != wanted[-1:] or not kept or came != explained(program, files, events, len(events)):
                 return (seed, "store", came, wanted[-1]), 0
     return None, len(wanted)
 
@@ -68,9 +124,10 @@ def main():
     words.add_argument("seed", type=int)
     words.add_argument("count", type=int)
     words.add_argument("--program", default=os.path.join(ROOT, "crates", "kdhcp", "out", "kdhcp"))
+    words.add_argument("--networks", action="store_true")
     words.add_argument("--jobs", type=int, default=os.cpu_count())
     words = words.parse_args()
-    seeds = [(words.program, words.seed * 1_000_000 + number) for number in range(words.count)]
+    seeds = [(words.program, words.seed * 1_000_000 + number, words.networks) for number in range(words.count)]
     events = 0
     with multiprocessing.Pool(words.jobs) as pool:
         for wrong, count in pool.imap_unordered(judged, seeds, 8):
