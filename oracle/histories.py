@@ -279,8 +279,8 @@ def datagram(chance, root, rows, clients):
     own = [row.address for row in rows if row.client == client.identity(root) and row.state == "Bound"]
     reserved, place = own_reserved(root, client), chance.random()
     if judge.is_kea(root) and kind == judge.REQUEST and own and place < 0.4:
-        ciaddr, relay = chance.choice(own).to_bytes(4, "big"), bytes(4)
-        left_out = chance.choice([(54,), (54, 82)])
+        ciaddr, relay = chance.choice([each for each in own if each in reserved] or own).to_bytes(4, "big"), bytes(4)
+        left_out = chance.choice([(54,), (54, 82), (54, 82), (54, 60, 82)])
         pairs = [pair for pair in pairs if pair[0] not in left_out]
     elif judge.is_kea(root) and kind == judge.REQUEST and reserved and place > 0.6:
         chosen = [(50, chance.choice(reserved).to_bytes(4, "big")), (54, address(root["server-address"]))]
@@ -295,6 +295,15 @@ def datagram(chance, root, rows, clients):
     return whole[: chance.randrange(len(whole))] if chance.random() < 0.01 else whole
 
 
+def taken_offer(root, message, line):
+    """The REQUEST by which a client takes what this line offers to its DISCOVER, or None if it offers nothing."""
+    reply = bytes.fromhex(line.split(" ")[-1]) if " reply " in line else b""
+    if reply[240:243] != b"\x35\x01\x02":
+        return None
+    found = {**judge.readable(message), 50: reply[16:20], 53: b"\x03", 54: address(root["server-address"])}
+    return message[:44] + bytes(192) + COOKIE + b"".join(written(*pair) for pair in found.items()) + b"\xff"
+
+
 def bad_line(chance, event):
     """The line of an event with one character replaced, which is mostly malformed."""
     at = chance.randrange(len(event))
@@ -305,15 +314,16 @@ def history(chance, configuration=configuration):
     """A configuration, events, and the result of judge.py: lines, rows, and the fault that ends them or None."""
     root = configuration(chance)
     clients = [Client(chance) for _ in range(chance.choice([2, 3, 4]))]
-    rows, events, now = judge.Rows(), [], chance.choice([0, 100, 1000])
+    rows, events, now, chosen = judge.Rows(), [], chance.choice([0, 100, 1000]), None
     for _ in range(chance.randrange(1, 50)):
-        moment, message = some_moment(chance, rows, now), datagram(chance, root, rows, clients)
+        moment, message = some_moment(chance, rows, now), chosen or datagram(chance, root, rows, clients)
         events.append(f"{moment} {message.hex()}")
         if chance.random() < 0.001:
             events[-1] = bad_line(chance, events[-1])
         if moment >= judge.END_OF_TIME:
             break
-        _, rows = judge.handle(root, rows, moment, message)
+        line, rows = judge.handle(root, rows, moment, message)
+        chosen = taken_offer(root, message, line) if judge.is_kea(root) and chance.random() < 0.6 else None
         now = judge.moment_of(rows, now if chance.random() < 0.5 else moment)
     return root, events, judge.replay(root, events)
 

@@ -52,15 +52,17 @@ def guard(chance, holder, names, often):
 
 def with_guards(chance, root):
     """The configuration with classes of its networks, subnets and pools, so that a client may need several at once."""
-    often = chance.choice([0, 0.2, 0.4, 0.7])
+    often = chance.choice([0, 0.3, 0.5, 0.8])
     defined = [entry["name"] for entry in root["client-classes"]]
     names = defined + [name for name in defined if name in CLASSES] * 3 + ["ALL", "VENDOR_CLASS_b", "none"]
-    for holder in root["shared-networks"]:
-        guard(chance, holder, names, often / 2)
     for subnet, _ in judge.subnets_of(root):
         guard(chance, subnet, names, often)
         for entry in subnet["pools"]:
             guard(chance, entry, names, often / 2)
+    for holder in root["shared-networks"]:
+        guard(chance, holder, names, often / 3)
+        if chance.random() < 0.5:
+            holder["subnet4"][-1].pop("client-class", None)
     return root
 
 
@@ -69,7 +71,7 @@ def with_doubles(chance, root):
     often = chance.choice([0, 0.4, 0.8])
     kept = set(judge.all_reserved(root))
     for network_of_all in root["shared-networks"]:
-        for client in chance.sample(histories.MACS, 3):
+        for client in chance.sample(histories.MACS, 4):
             for subnet in network_of_all["subnet4"]:
                 wanted = histories.near(chance, subnet["subnet"], 10)
                 is_there = any(entry.get("hw-address") == client.hex() for entry in subnet["reservations"])
