@@ -9,8 +9,8 @@ some clients have a reservation in several subnets of a network. Clients come th
 into a class. The whole server, networks, subnets, classes and reservations give values to boot fields, some of them empty. Some
 relays select a link, and some clients renew without the relay that says their class or their circuit. Some servers are
 authoritative, and some ignore client identifiers. Some reservations are by circuit or by DUID, have no address, or have options.
-In half of the files the whole server, networks, subnets and classes give lifetimes, and all but classes times of renewal or shares for them. Some
-clients ask for a lifetime.
+In half of the files the whole server, networks, subnets and classes give lifetimes, and all but classes times of renewal or shares
+for them. Some clients ask for a lifetime.
 """
 import json
 
