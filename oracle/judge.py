@@ -266,14 +266,15 @@ def changed_row(asked, address_of_row, client, state, seconds):
 
 
 def said_of_client(asked):
-    """What a message says of its client, by the key of a reservation: in a file of Kea's in the order of the keys."""
+    """What a message says of its client, by the key of a reservation: in a file of Kea's in its order of the keys."""
     identifier = asked.found.get(61)
     said = {"hw-address": mac(asked.datagram), "client-id": identifier}
     if not is_kea(asked.root):
         return said
     duid = identifier[5:] if identifier and identifier[0] == 255 and len(identifier) > 5 else None
     circuit = relay_options(asked.found).get(1) if giaddr(asked) else None
-    return {"hw-address": said["hw-address"], "duid": duid, "circuit-id": circuit, "client-id": identifier}
+    said = {"hw-address": said["hw-address"], "duid": duid, "circuit-id": circuit, "client-id": identifier}
+    return {key: said[key] for key in asked.root.get("host-reservation-identifiers", said)}
 
 
 def is_for(asked, entry, keys):
@@ -296,9 +297,9 @@ def reservation(asked):
 
 def lasting(asked, wanted):
     """The reservation of an address by which a renewal without a relay keeps it, or None: one for a circuit, whatever its
-    classes, or one for this client that requires a class that the client is not in."""
+    classes, or one for this client that requires classes."""
     for entry in asked.subnet.get("reservations", []):
-        is_its = is_for(asked, entry, list(said_of_client(asked))) and not admits(entry, asked.held)
+        is_its = is_for(asked, entry, list(said_of_client(asked))) and bool(entry.get("guards"))
         if reserved_by(entry) == [wanted] and ("circuit-id" in entry or is_its):
             return entry
     return None

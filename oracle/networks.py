@@ -104,6 +104,14 @@ def with_hosts(chance, root):
     return root
 
 
+def with_order(chance, root):
+    """The configuration with another order of the kinds by which reservations are looked for, in some files."""
+    if chance.random() < 0.4:
+        kinds = ["hw-address", "duid", "circuit-id", "client-id"]
+        root["host-reservation-identifiers"] = chance.sample(kinds, 4)
+    return root
+
+
 def boot_keys(chance, often):
     """Values for some of the boot fields, or none."""
     return {key: chance.choice(values) for key, values in BOOTS.items() if chance.random() < often}
@@ -201,7 +209,7 @@ def configuration(chance):
         else:
             root["subnet4"] += taken
     root = with_doubles(chance, with_guards(chance, root))
-    return with_all_times(chance, with_boot_keys(chance, with_hosts(chance, root)))
+    return with_all_times(chance, with_boot_keys(chance, with_order(chance, with_hosts(chance, root))))
 
 
 def history(chance):
