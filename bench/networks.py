@@ -1,12 +1,12 @@
 #!/usr/bin/env python3
 """Measures a message in a shared network of 64 subnets, beside the same message in its last subnet alone.
 
-    networks.py [--program P]
+    networks.py [--program P] [--times]
 
 P is the program, by default crates/kdhcp/out/kdhcp. `replay --kea` handles messages of each kind, over leases that fill the
 first 63 subnets of the network. It prints a Markdown table: the instructions of a message (callgrind, over 1,500), their ratio
 and the goal for it, and the microseconds of processor time (over 50,000, best of five runs). What the same run takes without
-these messages is subtracted. It needs valgrind.
+these messages is subtracted. With --times each subnet has a lifetime of its own. It needs valgrind.
 """
 import argparse
 import json
@@ -26,13 +26,15 @@ def dotted(address):
     return ".".join(map(str, address))
 
 
-def configuration(first):
+def configuration(first, has_times):
     """A network of the subnets from this one to the last. All but the last have small pools."""
     sizes = [(number, 190 if number == SUBNETS else SMALL) for number in range(first, SUBNETS + 1)]
     subnets = [
         {"id": number, "subnet": f"10.{number}.0.0/24", "pools": [{"pool": f"10.{number}.0.10 - 10.{number}.0.{9 + size}"}]}
         for number, size in sizes
     ]
+    for subnet in subnets if has_times else []:
+        subnet["valid-lifetime"] = 100_000_000 + subnet["id"]
     link = {"name": "link", "relay": {"ip-addresses": [dotted(RELAY)]}, "subnet4": subnets}
     return {"Dhcp4": {"valid-lifetime": 100_000_000, "offer-lifetime": 1, "shared-networks": [link]}}
 
@@ -62,10 +64,10 @@ def events(first, kind, count):
 class Runs:
     """Runs of `replay` over a network from one subnet on."""
 
-    def __init__(self, program, folder, first):
+    def __init__(self, program, folder, first, has_times):
         self.first, self.lines = first, f"{folder}/lines"
         with open(f"{folder}/kea.json", "w", encoding="utf-8") as file:
-            json.dump(configuration(first), file)
+            json.dump(configuration(first, has_times), file)
         self.words = [program, "replay", "--kea", f"{folder}/kea.json", "--server-address", dotted(SERVER)]
 
     def write(self, kind, count):
@@ -99,11 +101,13 @@ class Runs:
 def main():
     words = argparse.ArgumentParser(description=__doc__, formatter_class=argparse.RawDescriptionHelpFormatter)
     words.add_argument("--program", default=f"{TOP}/crates/kdhcp/out/kdhcp")
-    program = os.path.abspath(words.parse_args().program)
+    words.add_argument("--times", action="store_true")
+    words = words.parse_args()
+    program = os.path.abspath(words.program)
     print("| Message | In the network | In its last subnet | Ratio | Goal | us | us |\n|---|---|---|---|---|---|---|", flush=True)
     with tempfile.TemporaryDirectory() as folder:
         for kind, goal in (("DISCOVER", 3), ("renewal", 1.3)):
-            (whole, longer), (last, shorter) = (Runs(program, folder, first).of_message(kind) for first in (1, SUBNETS))
+            (whole, longer), (last, shorter) = (Runs(program, folder, first, words.times).of_message(kind) for first in (1, SUBNETS))
             print(f"| {kind} | {whole:,.0f} | {last:,.0f} | {whole / last:.2f} | {goal} | {longer:.1f} | {shorter:.1f} |", flush=True)
 
 
