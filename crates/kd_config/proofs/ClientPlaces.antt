@@ -7,7 +7,9 @@ use Rattle.std.specs.Option.{option_or}
 use Rattle.std.proofs.lemmas.Bool.Decides.{eqb_tells}
 use Rattle.std.proofs.lemmas.Option.{none-some, same_Some}
 use Rattle.indexmap.specs.IndexMap.{insert_entry}
-use Rattle.kd_config.specs.Reservation.{ArePlaces, earlier, found_if, identified_by, is_client, is_client_if}
+use Rattle.kd_config.specs.Places.{AreFirst, place_by}
+use Rattle.kd_config.specs.Reservation.{earlier, found_if, identified_by, is_client, is_client_if}
+use Rattle.kd_config.specs.declared.clients.Clients.{Clients}
 use Rattle.kd_config.specs.declared.reservation.IdentityKind.{IdentityKind}
 use Rattle.kd_config.specs.declared.reservation.IdentityKind.TheVariants as kinds
 use Rattle.kd_config.specs.declared.reservation.Reservation.{Reservation}
@@ -52,7 +54,7 @@ first_more test i (y ∷ xs) x = by (test y) (first_more test (i + 1) xs x) wher
   by false h = let next : i + 1 + length xs ≡ i + suc (length xs) = omega arith in h ∙ ap (λ n. option_or (position_from test (i + 1) xs) (if test x then Some n else None)) next
 
 -- a place that is found is not before the start
-from_start : {X : Type 0} (test : X → Bool) (i : ℕ) (xs : List X) (k : ℕ) → position_from test i xs ≡ Some k → i ≤ k
+pub from_start : {X : Type 0} (test : X → Bool) (i : ℕ) (xs : List X) (k : ℕ) → position_from test i xs ≡ Some k → i ≤ k
 from_start test i [] k is = absurd (none-some k is)
 from_start test i (x ∷ xs) k is = by (test x) is (from_start test (i + 1) xs k) where
   by : (t : Bool) → (if t then Some i else position_from test (i + 1) xs) ≡ Some k → (position_from test (i + 1) xs ≡ Some k → i + 1 ≤ k) → i ≤ k
@@ -137,19 +139,19 @@ none_passes i [] = refl
 none_passes i (x ∷ xs) = none_passes (i + 1) xs
 
 -- what is found for bytes, if there are any
-pub found_places : (kind : IdentityKind) (found : List ℕ → Option ℕ) (list : List Reservation) → ArePlaces kind found list → (id : Option (List ℕ))
-    → found_if found id ≡ position_from (λ r. is_client_if kind id r.identity) 0 list
-found_places kind found list are None = sym (none_passes 0 list)
-found_places kind found list are (Some bytes) = are bytes
+pub found_places : (table : Clients) (list : List Reservation) → AreFirst table 0 list → (kind : IdentityKind) (id : Option (List ℕ))
+    → found_if (place_by table kind) id ≡ position_from (λ r. is_client_if kind id r.identity) 0 list
+found_places table list are kind None = sym (none_passes 0 list)
+found_places table list are kind (Some bytes) = are kind bytes
 
 pub or-none : (x : Option ℕ) → option_or x None ≡ x
 or-none None = refl
 or-none (Some x) = refl
 
 -- the first reservation for a client is at the earlier of the places that are found for its bytes
-pub first_of_client : (list : List Reservation) (hardware identifiers : List ℕ → Option ℕ) → ArePlaces kinds.Hardware hardware list → ArePlaces kinds.ClientId identifiers list
-    → (mac : List ℕ) (id : Option (List ℕ)) → find (λ r. identified_by mac id r.identity) list ≡ at_place list 0 (earlier (hardware mac) (found_if identifiers id))
-first_of_client list hardware identifiers left right mac id =
+pub first_of_client : (table : Clients) (list : List Reservation) → AreFirst table 0 list → (mac : List ℕ) (id : Option (List ℕ))
+    → find (λ r. identified_by mac id r.identity) list ≡ at_place list 0 (earlier (place_by table kinds.Hardware mac) (found_if (place_by table kinds.ClientId) id))
+first_of_client table list are mac id =
     first_of_both (λ r. is_client kinds.Hardware mac r.identity) (λ r. is_client_if kinds.ClientId id r.identity) 0 list
-    ∙ ap (λ p. at_place list 0 (earlier p (position_from (λ r. is_client_if kinds.ClientId id r.identity) 0 list))) (sym (left mac))
-    ∙ ap (λ q. at_place list 0 (earlier (hardware mac) q)) (sym (found_places kinds.ClientId identifiers list right id))
+    ∙ ap (λ p. at_place list 0 (earlier p (position_from (λ r. is_client_if kinds.ClientId id r.identity) 0 list))) (sym (are kinds.Hardware mac))
+    ∙ ap (λ q. at_place list 0 (earlier (place_by table kinds.Hardware mac) q)) (sym (found_places table list are kinds.ClientId id))

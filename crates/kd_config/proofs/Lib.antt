@@ -1,5 +1,6 @@
 pub mod Tests
 pub mod ClientPlaces
+pub mod Chains
 pub mod NoClasses
 pub mod SoundBuiltin
 pub mod PoolPlaces

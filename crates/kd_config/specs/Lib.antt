@@ -1,6 +1,7 @@
 pub mod Address
 pub mod Options
 pub mod Reservation
+pub mod Places
 pub mod Apart
 pub mod Rules
 pub mod Configuration

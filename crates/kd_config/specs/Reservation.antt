@@ -1,6 +1,6 @@
 -- The reservation for a client: the first for its hardware address or its identifier, or the one
 -- for it by one kind of identity, and how it is found.
-use Rattle.std.specs.Prelude.{◌≡◌, ℕ, ◌==◌, min, Bool, true, false, ◌||◌, List, [], ◌∷◌, Option, Some, None}
+use Rattle.std.specs.Prelude.{◌≡◌, ℕ, ◌==◌, min, Bool, false, ◌||◌, List, [], ◌∷◌, Option, Some, None}
 use Rattle.std.specs.List.{position_from}
 use Rattle.std.specs.Str.{bytes_eq}
 use Rattle.kd_config.specs.declared.reservation.Identity.{Identity}
@@ -46,24 +46,10 @@ abbrev pub AreAddresses : (ℕ → Option ℕ) → List Reservation → Type 0
 AreAddresses found reservations =
     (a : ℕ) → found a ≡ position_from (has_reserved a) 0 reservations
 
--- the lookup of a client's bytes finds the place of its first reservation
-abbrev pub ArePlaces : IdentityKind → (List ℕ → Option ℕ) → List Reservation → Type 0
-ArePlaces kind found reservations =
-    (bytes : List ℕ) → found bytes
-    ≡ position_from (λ reservation. is_client kind bytes reservation.identity) 0 reservations
-
 -- what is found for bytes, if there are any
 abbrev pub found_if : (List ℕ → Option ℕ) → Option (List ℕ) → Option ℕ
 found_if found None = None
 found_if found (Some bytes) = found bytes
-
--- the bytes of a client, if they are of this kind
-abbrev pub bytes_of_kind : IdentityKind → Identity → Option (List ℕ)
-bytes_of_kind kinds.Hardware (clients.Hardware own) = Some own
-bytes_of_kind kinds.Duid (clients.Duid own) = Some own
-bytes_of_kind kinds.Circuit (clients.Circuit own) = Some own
-bytes_of_kind kinds.ClientId (clients.ClientId own) = Some own
-bytes_of_kind _ _ = None
 
 -- the lesser of two places, if there are any
 abbrev pub earlier : Option ℕ → Option ℕ → Option ℕ

@@ -10,6 +10,8 @@ use std::alloc::Global;
 pub struct Extensions {
     /// A relay may select the link on which its client is (RFC 3527).
     pub selects_links: bool,
+    /// A relay may set the identifier by which its clients know the server (RFC 5107).
+    pub sets_server: bool,
     /// A client that renews its lease, without a relay, keeps it although it is not in the class that
     /// its subnet or its pool requires (our own choice).
     pub keeps_leases: bool,
@@ -33,6 +35,7 @@ impl Extensions {
     {
         Extensions {
             selects_links: false,
+            sets_server: false,
             keeps_leases: false,
             is_authoritative: false,
             ignores_client_ids: false,
@@ -40,8 +43,8 @@ impl Extensions {
         }
     }
 
-    /// Returns those of a configuration of Kea's: relays select links, clients keep leases, and the
-    /// others are as the file says.
+    /// Returns those of a configuration of Kea's: relays select links and set the server's identifier,
+    /// clients keep leases, and the others are as the file says.
     pub fn of_kea(
         is_authoritative: bool,
         ignores_client_ids: bool,
@@ -51,6 +54,7 @@ impl Extensions {
     {
         Extensions {
             selects_links: true,
+            sets_server: true,
             keeps_leases: true,
             is_authoritative,
             ignores_client_ids,

@@ -11,6 +11,8 @@
 #![tactic(auto)]
 
 mod builtin;
+mod classed;
+mod clients;
 mod config;
 mod copies;
 mod extensions;
@@ -25,6 +27,7 @@ mod subnet;
 mod term;
 mod times;
 
+pub use classed::admits;
 pub use config::Config;
 pub use copies::{classes_copied, classes_joined, classes_of, options_copied};
 pub use extensions::Extensions;

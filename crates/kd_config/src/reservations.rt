@@ -1,13 +1,16 @@
-ghost use Rattle.std.specs.Prelude.{◌≡◌, ◌==◌, ◌++◌, IfOk, List, None, OnOk, Some, [], if◌then◌else◌, nat_eq, slice_get, ℕ};
+ghost use Rattle.std.specs.Prelude.{◌≡◌, ◌==◌, ◌&&◌, ◌++◌, IfOk, None, OnOk, Some, [], if◌then◌else◌, nat_eq, slice_get, ℕ};
 ghost use Rattle.std.specs.List.{find, list_any};
 ghost use Rattle.std.specs.Option.{option_copied, option_or};
-ghost use Rattle.std.specs.Str.{bytes_eq};
 ghost use Rattle.indexmap.specs.IndexMap.{get_by};
-ghost use Rattle.kd_config.specs.Reservation.{AreAddresses, ArePlaces, bytes_of_kind, earlier, found_if, has_reserved, identified_by, is_client, is_client_if, listed, same_address};
+ghost use Rattle.kd_config.specs.Classed.{classes_admit};
+ghost use Rattle.kd_config.specs.Reservation.{AreAddresses, earlier, has_reserved, identified_by, is_client_if, listed, same_address};
 ghost use Rattle.kd_config.specs.Rules.{reserved};
 
-use crate::reservation::{Identity, IdentityKind, Reservation};
+use crate::classed::admits;
+use crate::clients::{Clients, put_all};
+use crate::reservation::{IdentityKind, Reservation};
 use indexmap::IndexMap;
+use kd_machine::Held;
 use std::alloc::{AllocError, Global};
 use std::marker::Model;
 
@@ -18,22 +21,17 @@ pub struct Reservations {
     list: Vec<Reservation>,
     // The index of the first reservation of each address.
     addresses: IndexMap<u32, usize>,
-    // The index of the first reservation for each hardware address.
-    hardware: IndexMap<Vec<u8>, usize>,
-    // The index of the first reservation for each DUID.
-    duids: IndexMap<Vec<u8>, usize>,
-    // The index of the first reservation for each circuit.
-    circuits: IndexMap<Vec<u8>, usize>,
-    // The index of the first reservation for each client identifier.
-    identifiers: IndexMap<Vec<u8>, usize>,
+    // The index of the first reservation for each client.
+    clients: Clients,
+    // For each reservation the index of the next one for its client, if there is one.
+    next: Vec<Option<usize>>,
 }
 
 impl Model for Reservations {
     ghost use Rattle.std.specs.Prelude.{List, nat_eq};
-    ghost use Rattle.std.specs.Str.{bytes_eq};
     ghost use Rattle.indexmap.specs.IndexMap.{get_by};
-    ghost use Rattle.kd_config.specs.Reservation.{AreAddresses, ArePlaces};
-    ghost use Rattle.kd_config.specs.declared.reservation.IdentityKind.TheVariants as kinds;
+    ghost use Rattle.kd_config.specs.Places.{AreFirst, AreNext};
+    ghost use Rattle.kd_config.specs.Reservation.{AreAddresses};
     ghost use Rattle.kd_config.specs.declared.reservation.Reservation.{Reservation};
 
     ghost Value = { List Reservation };
@@ -41,14 +39,8 @@ impl Model for Reservations {
     ghost view = { λ r. r.list.items };
 
     ghost invariant = { λ r. AreAddresses (λ a. get_by (nat_eq a) r.addresses) r.list.items
-        × ArePlaces kinds.Hardware (λ bytes. get_by (λ key. bytes_eq bytes key.items) r.hardware)
-        r.list.items
-        × ArePlaces kinds.Duid (λ bytes. get_by (λ key. bytes_eq bytes key.items) r.duids)
-        r.list.items
-        × ArePlaces kinds.Circuit (λ bytes. get_by (λ key. bytes_eq bytes key.items) r.circuits)
-        r.list.items
-        × ArePlaces kinds.ClientId
-        (λ bytes. get_by (λ key. bytes_eq bytes key.items) r.identifiers) r.list.items };
+        × AreFirst r.clients 0 r.list.items
+        × AreNext 0 r.list.items r.next.items };
 }
 
 impl Reservations {
@@ -59,10 +51,8 @@ impl Reservations {
         Reservations {
             list: Vec::new(alloc),
             addresses: IndexMap::new(alloc),
-            hardware: IndexMap::new(alloc),
-            duids: IndexMap::new(alloc),
-            circuits: IndexMap::new(alloc),
-            identifiers: IndexMap::new(alloc),
+            clients: Clients::none(alloc),
+            next: Vec::new(alloc),
         }
     }
 
@@ -75,17 +65,13 @@ impl Reservations {
         ensures { IfOk result (λ reservations. reservations ≡ list.items) }
     {
         let addresses = addresses_of(alloc, &list)?;
-        let hardware = places_of(alloc, &list, IdentityKind::Hardware)?;
-        let duids = places_of(alloc, &list, IdentityKind::Duid)?;
-        let circuits = places_of(alloc, &list, IdentityKind::Circuit)?;
-        let identifiers = places_of(alloc, &list, IdentityKind::ClientId)?;
+        let mut clients = Clients::none(alloc);
+        let next = put_all(alloc, &mut clients, &list)?;
         Ok(Reservations {
             list,
             addresses,
-            hardware,
-            duids,
-            circuits,
-            identifiers,
+            clients,
+            next,
         })
     }
 
@@ -131,38 +117,36 @@ impl Reservations {
             ≡ find (λ reservation. identified_by mac.now (option_copied id.entry)
             reservation.identity) self.now }
     {
-        let hardware = place_in(&self.hardware, Some(mac));
-        let identifier = place_in(&self.identifiers, id);
+        let hardware = self.clients.index_of(IdentityKind::Hardware, Some(mac));
+        let identifier = self.clients.index_of(IdentityKind::ClientId, id);
         match earlier_of(hardware, identifier) {
             Some(place) => self.at(place),
             None => None,
         }
     }
 
-    /// Returns the first reservation for the client that has these bytes by a kind of identity, if
-    /// there are bytes and there is one.
-    pub fn of_kind(&self, kind: IdentityKind, bytes: Option<&[u8]>) -> Option<&Reservation>
+    /// Returns the first reservation for the client that has these bytes by a kind of identity, and
+    /// is in the classes with these names, each of which the reservation requires; none if there are
+    /// no bytes. It takes a step for each reservation of the client.
+    pub fn admitting(
+        &self,
+        kind: IdentityKind,
+        bytes: Option<&[u8]>,
+        names: &Held,
+    ) -> Option<&Reservation>
         ensures { option_copied result
             ≡ find (λ reservation. is_client_if kind (option_copied bytes.entry)
-            reservation.identity) self.now }
+            reservation.identity && classes_admit reservation.classes names.now) self.now }
     {
-        match place_in(self.places(kind), bytes) {
-            Some(place) => self.at(place),
-            None => None,
+        let mut found = self.clients.index_of(kind, bytes);
+        while let Some(place) = found {
+            let reservation = &self.list[place];
+            if admits(reservation.classes.as_slice(), names) {
+                return Some(reservation);
+            }
+            found = self.next[place];
         }
-    }
-
-    // Returns the indexes of the first reservations for clients, by a kind of identity.
-    fn places(&self, kind: IdentityKind) -> &IndexMap<Vec<u8>, usize>
-        ensures { ArePlaces kind (λ bytes. get_by (λ key. bytes_eq bytes key.items) result.now)
-            self.now }
-    {
-        match kind {
-            IdentityKind::Hardware => &self.hardware,
-            IdentityKind::Duid => &self.duids,
-            IdentityKind::Circuit => &self.circuits,
-            IdentityKind::ClientId => &self.identifiers,
-        }
+        None
     }
 
     // Returns the reservation at an index, if there is one.
@@ -253,85 +237,4 @@ fn earlier_of(a: Option<usize>, b: Option<usize>) -> Option<usize>
         (Some(a), None) => Some(a),
         (None, b) => b,
     }
-}
-
-// Looks up the index of a client by its bytes.
-fn place_in(places: &IndexMap<Vec<u8>, usize>, bytes: Option<&[u8]>) -> Option<usize>
-    ensures { result ≡ found_if (λ bytes. get_by (λ key. bytes_eq bytes key.items) places.now)
-        (option_copied bytes.entry) }
-{
-    match bytes {
-        Some(bytes) => places.get(bytes).copied(),
-        None => None,
-    }
-}
-
-// Collects the index of the first reservation for each client, by a kind of identity.
-fn places_of(
-    alloc: Global,
-    list: &[Reservation],
-    kind: IdentityKind,
-) -> Result<IndexMap<Vec<u8>, usize>, AllocError>
-    ensures { IfOk result (λ places. ArePlaces kind
-        (λ bytes. get_by (λ key. bytes_eq bytes key.items) places) list.now) }
-{
-    let mut places = IndexMap::new(alloc);
-    for i in 0..list.len() {
-        put_client(alloc, &mut places, &list[i].identity, kind, i)?;
-    }
-    Ok(places)
-}
-
-// Stores the index of a client that has none yet, if the client is of the kind.
-fn put_client(
-    alloc: Global,
-    places: &mut IndexMap<Vec<u8>, usize>,
-    identity: &Identity,
-    kind: IdentityKind,
-    place: usize,
-) -> Result<(), AllocError>
-    ensures { OnOk result ((other : List ℕ)
-        → get_by (λ key. bytes_eq other key.items) places.new
-        ≡ option_or (get_by (λ key. bytes_eq other key.items) places.old)
-        (if is_client kind other identity.now then Some place else None)) }
-{
-    match bytes_of(identity, kind) {
-        Some(bytes) => put_place(alloc, places, bytes, place)?,
-        None => {}
-    }
-    Ok(())
-}
-
-// Returns the bytes of a client, if they are of this kind.
-fn bytes_of(identity: &Identity, kind: IdentityKind) -> Option<&[u8]>
-    ensures { option_copied result ≡ bytes_of_kind kind identity.now }
-{
-    match (kind, identity) {
-        (IdentityKind::Hardware, Identity::Hardware(bytes)) => Some(bytes.as_slice()),
-        (IdentityKind::Duid, Identity::Duid(bytes)) => Some(bytes.as_slice()),
-        (IdentityKind::Circuit, Identity::Circuit(bytes)) => Some(bytes.as_slice()),
-        (IdentityKind::ClientId, Identity::ClientId(bytes)) => Some(bytes.as_slice()),
-        _ => None,
-    }
-}
-
-// Stores the index of a client that has none yet.
-fn put_place(
-    alloc: Global,
-    places: &mut IndexMap<Vec<u8>, usize>,
-    bytes: &[u8],
-    place: usize,
-) -> Result<(), AllocError>
-    ensures { OnOk result ((other : List ℕ)
-        → get_by (λ key. bytes_eq other key.items) places.new
-        ≡ option_or (get_by (λ key. bytes_eq other key.items) places.old)
-        (if bytes_eq other bytes.now then Some place else None)) }
-{
-    match places.get(bytes) {
-        Some(_) => {}
-        None => {
-            let _old = places.insert(Vec::from_slice(alloc, bytes)?, place)?;
-        }
-    }
-    Ok(())
 }

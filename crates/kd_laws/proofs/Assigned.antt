@@ -21,7 +21,7 @@ use Rattle.kd_lease.specs.Plan.{Content, Outcome}
 use Rattle.kd_lease.specs.Plan.Outcome.{planned, quiet}
 use Rattle.kd_lease.specs.Client.{requested_address}
 use Rattle.kd_lease.specs.Rules.{Does, IsReplyOf, IsSilent, Makes, client_has, declined_row, ending, kept_subnet, lasting_for, may_last, released_row, renewable, rule_of, serving_subnet}
-use Rattle.kd_lease.specs.SubnetOf.{classes_admit}
+use Rattle.kd_config.specs.Classed.{classes_admit}
 use Rattle.kd_lease.specs.declared.plan.PlanKind.{PlanKind}
 use Rattle.kd_lease.specs.declared.plan.PlanKind.TheVariants as kinds
 use Rattle.kd_lease.specs.declared.rule.Ending.{Ending}

@@ -12,7 +12,9 @@ use Rattle.kd_lease.specs.Choice.{Asking, contained, fitting_for, reserved_anywh
 use Rattle.kd_lease.specs.Client.{selected_link}
 use Rattle.kd_lease.specs.Kept.{renews_lease, subnet_keeping}
 use Rattle.kd_lease.specs.Rules.{kept_subnet, lasting_for, may_last, serving_subnet}
-use Rattle.kd_lease.specs.SubnetOf.{address_or, classes_admit, first_serving, has_relay, header_place, is_by_relay, link_of, message_place, served_by, subnet_serving}
+use Rattle.kd_config.specs.Classed.{classes_admit}
+use Rattle.kd_lease.specs.Client.{address_or}
+use Rattle.kd_lease.specs.SubnetOf.{first_serving, has_relay, header_place, is_by_relay, link_of, message_place, served_by, subnet_serving}
 
 -- no subnet has a relay
 none_has : (subnets : List Subnet) (a : ℕ) (names : List (List ℕ)) → AllByRecursion (λ s. s.relays ≡ []) subnets

@@ -9,7 +9,7 @@ use Rattle.kd_config.specs.declared.subnet.Subnet.{Subnet}
 use Rattle.kd_lease.specs.Choice.{Asking, IsFirstOf, has_rank, pooled, is_before, is_earlier, pool_gives, pool_place}
 use Rattle.kd_lease.specs.Ranks.{IsRanked}
 use Rattle.kd_lease.specs.Seeking.{IsLeastGiven, is_open, pool_rank}
-use Rattle.kd_lease.specs.SubnetOf.{classes_admit}
+use Rattle.kd_config.specs.Classed.{classes_admit}
 
 left : (t u : Bool) → (t && u) ≡ true → t ≡ true
 left true u h = refl

@@ -25,7 +25,6 @@ use Rattle.kd_options.specs.Message.{Seen, mac_of}
 use Rattle.kd_lease.specs.Choice.{is_from, ordered_reservation, reserved_anywhere, reserved_in, client_reservation, same_value}
 use Rattle.kd_lease.specs.Kept.{renews_alone, reservation_at, unseen_reservation}
 use Rattle.kd_lease.specs.Seeking.{reserves}
-use Rattle.kd_lease.specs.SubnetOf.{classes_admit}
 
 left : (t u : Bool) → (t && u) ≡ true → t ≡ true
 left true u h = refl
@@ -119,27 +118,6 @@ find_by m (r ∷ rs) =
 -- whose a reservation is, is decided by the hardware address and the identifier of the client
 pub reservation_listed : (m : Seen) (s : Subnet) → find (λ r. is_from m r.identity) s.reservations ≡ find (λ r. identified_by (mac_of m.header) (value_of 61 m.options) r.identity) s.reservations
 reservation_listed m s = find_by m s.reservations
-
--- ---- those that count
-
-abbrev counted_so : IdentityKind → Option (List ℕ) → List (List ℕ) → Reservation → Bool
-counted_so kind bytes names r = is_client_if kind bytes r.identity && classes_admit r.classes names
-
--- where none is for the client, none counts
-pub none_counts : (kind : IdentityKind) (bytes : Option (List ℕ)) (names : List (List ℕ)) (rs : List Reservation) → find (λ r. is_client_if kind bytes r.identity) rs ≡ None → find (λ r. is_client_if kind bytes r.identity && classes_admit r.classes names) rs ≡ None
-none_counts kind bytes names [] none = refl
-none_counts kind bytes names (r ∷ rs) none = by (is_client_if kind bytes r.identity) none (none_counts kind bytes names rs) where
-  by : (b : Bool) → (if b then Some r else find (λ r. is_client_if kind bytes r.identity) rs) ≡ None → (find (λ r. is_client_if kind bytes r.identity) rs ≡ None → find (counted_so kind bytes names) rs ≡ None) → (if b && classes_admit r.classes names then Some r else find (counted_so kind bytes names) rs) ≡ None
-  by true h rest = absurd (none-some r (sym h))
-  by false h rest = rest h
-
--- the first that is for the client counts, if its classes are held
-pub first_counts : (kind : IdentityKind) (bytes : Option (List ℕ)) (names : List (List ℕ)) (rs : List Reservation) (r : Reservation) → find (λ r. is_client_if kind bytes r.identity) rs ≡ Some r → classes_admit r.classes names ≡ true → find (λ r. is_client_if kind bytes r.identity && classes_admit r.classes names) rs ≡ Some r
-first_counts kind bytes names [] r first held = absurd (none-some r first)
-first_counts kind bytes names (x ∷ rs) r first held = by (is_client_if kind bytes x.identity) first (λ h. first_counts kind bytes names rs r h held) where
-  by : (b : Bool) → (if b then Some x else find (λ r. is_client_if kind bytes r.identity) rs) ≡ Some r → (find (λ r. is_client_if kind bytes r.identity) rs ≡ Some r → find (counted_so kind bytes names) rs ≡ Some r) → (if b && classes_admit x.classes names then Some x else find (counted_so kind bytes names) rs) ≡ Some r
-  by true h rest = ap (λ (b : Bool). if b then Some x else find (counted_so kind bytes names) rs) (ap (λ (y : Reservation). classes_admit y.classes names) (same_Some x r h) ∙ held) ∙ h
-  by false h rest = rest h
 
 or_nothing : (o : Option Reservation) → option_or o None ≡ o
 or_nothing None = refl

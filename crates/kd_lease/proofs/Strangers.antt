@@ -1,11 +1,12 @@
 -- What an authoritative server does for clients of which it has no record, and who a client is.
-use Rattle.std.proofs.Common.{◌≡◌, ℕ, Bool, true, false, not, ◌||◌, List, [], ◌∷◌, Option, Some, if◌then◌else◌, refl, ap, ◌∙◌}
+use Rattle.std.proofs.Common.{◌≡◌, ℕ, Bool, true, false, not, ◌&&◌, ◌||◌, List, [], ◌∷◌, Option, Some, None, if◌then◌else◌, refl, ap, ◌∙◌}
 use Rattle.std.specs.List.{find}
 use Rattle.kd_event.specs.declared.reason.Reason.TheVariants as reasons
 use Rattle.kd_lease.specs.Choice.{Asking}
-use Rattle.kd_lease.specs.Client.{client_identity, hardware_identity}
-use Rattle.kd_lease.specs.Laws.{KnownByMessage, KnownByRecord, StrangersAreRefused}
-use Rattle.kd_lease.specs.Rules.{ends_by, fails, holds_at, known_in, other_server, serving_subnet}
+use Rattle.kd_lease.specs.Client.{address_or, client_identity, hardware_identity, named_server, set_identifier}
+use Rattle.kd_lease.specs.Laws.{KnownByAddress, KnownByMessage, KnownByRecord, StrangersAreRefused}
+use Rattle.kd_lease.specs.Rules.{ends_by, fails, holds_at, known_in, serving_subnet}
+use Rattle.kd_lease.specs.Server.{names_another, other_server, server_identifier}
 use Rattle.kd_lease.specs.declared.rule.Check.{Check}
 use Rattle.kd_lease.specs.declared.rule.Check.TheVariants as checks
 use Rattle.kd_lease.specs.declared.rule.Ending.{Ending}
@@ -50,7 +51,7 @@ strangers_refused q a authority named served other =
     ∙ goes_on q a ends.Lease (checks.Subnet, ends.Quiet reasons.NoSubnet) behind_subnet served
     ∙ by (holds_at q (Some a) checks.Prefix) refl where
       server : holds_at q (Some a) checks.Server ≡ true
-      server = ap (λ (o : Option ℕ). not (other_server q.config.server o)) named
+      server = ap (λ (o : Option ℕ). not (other_server q.config.server o && other_server (server_identifier q.config q.message) o)) named
 
       known : holds_at q (Some a) checks.Client ≡ true
       known = ap (λ (b : Bool). b || known_in q (serving_subnet q)) authority
@@ -67,3 +68,18 @@ by_record q about none = ap (λ (b : Bool). b || known_in q (serving_subnet q)) 
 
 pub by_message : KnownByMessage
 by_message config m none = ap (λ (b : Bool). if b then hardware_identity m else client_identity m) none
+
+-- ---- by which address the server is known
+
+same_twice : (b : Bool) → (b && b) ≡ b
+same_twice true = refl
+same_twice false = refl
+
+pub known_by_address : KnownByAddress
+known_by_address config m none =
+    let server : server_identifier config m ≡ config.server =
+    ap (λ (b : Bool). address_or (if b then set_identifier m else None) config.server) none in (
+      server,
+      ap (λ (a : ℕ). other_server config.server (named_server m) && other_server a (named_server m)) server
+          ∙ same_twice (other_server config.server (named_server m)),
+    )

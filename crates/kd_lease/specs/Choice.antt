@@ -18,7 +18,7 @@ use Rattle.kd_config.specs.declared.reservation.IdentityKind.{IdentityKind}
 use Rattle.kd_config.specs.declared.reservation.Reservation.{Reservation}
 use Rattle.kd_config.specs.declared.subnet.Subnet.{Subnet}
 use Rattle.kd_lease.specs.Client.{client_bytes, requested_address}
-use Rattle.kd_lease.specs.SubnetOf.{classes_admit}
+use Rattle.kd_config.specs.Classed.{classes_admit}
 use Rattle.kd_options.specs.Joined.{value_of}
 use Rattle.kd_options.specs.Message.{Seen, mac_of}
 use Rattle.kd_rows.specs.Table.{belongs_to, row_at}

@@ -74,6 +74,16 @@ named_server m = address_of_value (value_of 54 m.options)
 abbrev pub selected_link : Seen → Option ℕ
 selected_link m = address_of_value (lookup (nat_eq 5) (relay_list m.options))
 
+-- the server identifier that a relay sets for its client: sub-option 11 of option 82 (RFC 5107), if
+-- it has four bytes
+abbrev pub set_identifier : Seen → Option ℕ
+set_identifier m = address_of_value (lookup (nat_eq 11) (relay_list m.options))
+
+-- an address, or else another one
+abbrev pub address_or : Option ℕ → ℕ → ℕ
+address_or None other = other
+address_or (Some a) other = a
+
 -- the DUID in a client identifier (RFC 4361 section 6.1): what follows its type, 255, and four bytes
 -- of an identity association, unless that is nothing
 abbrev pub duid_in : Option (List ℕ) → Option (List ℕ)

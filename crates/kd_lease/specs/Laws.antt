@@ -18,7 +18,9 @@ use Rattle.kd_lease.specs.Kept.{reservation_at}
 use Rattle.kd_lease.specs.Plan.{Content, Outcome}
 use Rattle.kd_lease.specs.Plan.Outcome.{planned}
 use Rattle.kd_lease.specs.Rules.{Does, IsAbout, Makes, Sets, client_has, ending, held_at, holds_at, known_in, lasting_for, renewable, rule_of, serving_subnet}
-use Rattle.kd_lease.specs.SubnetOf.{classes_admit, first_serving, header_place, link_of, message_place, subnet_serving}
+use Rattle.kd_config.specs.Classed.{classes_admit}
+use Rattle.kd_lease.specs.Server.{names_another, other_server, server_identifier}
+use Rattle.kd_lease.specs.SubnetOf.{first_serving, header_place, link_of, message_place, subnet_serving}
 use Rattle.kd_lease.specs.declared.plan.PlanKind.TheVariants as kinds
 use Rattle.kd_lease.specs.declared.rule.Check.TheVariants as checks
 use Rattle.kd_lease.specs.declared.rule.Ending.{Ending}
@@ -133,6 +135,15 @@ PlaceByHeader =
     (config : Configuration) (m : Seen)
     → (config.extensions.selects_links && not (m.header.giaddr == 0)) ≡ false
     → (link_of config m ≡ None) × (message_place config m ≡ header_place config.server m.header)
+
+-- where relays set no identifiers, or the message came through no relay, the server is known by its
+-- address alone
+abbrev pub KnownByAddress : Type 0
+KnownByAddress =
+    (config : Configuration) (m : Seen)
+    → (config.extensions.sets_server && not (m.header.giaddr == 0)) ≡ false
+    → (server_identifier config m ≡ config.server)
+    × (names_another config m ≡ other_server config.server (named_server m))
 
 -- where clients keep no leases, a message is served by its place and classes, and an address that
 -- may be renewed fits

@@ -19,6 +19,7 @@ pub mod ReplyOf
 pub mod ReplyOptions
 pub mod Rules
 pub mod Seeking
+pub mod Server
 pub mod SubnetOf
 pub mod Times
 pub mod Valuing

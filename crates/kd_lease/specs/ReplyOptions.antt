@@ -12,6 +12,7 @@ use Rattle.kd_lease.specs.Booting.{reply_fields}
 use Rattle.kd_lease.specs.Plan.{Content, ReplyOption}
 use Rattle.kd_lease.specs.ReplyOf.{obligatory, returned}
 use Rattle.kd_lease.specs.Rules.{granted_times, serving_subnet}
+use Rattle.kd_lease.specs.Server.{server_identifier}
 use Rattle.kd_lease.specs.declared.plan.PlanKind.{PlanKind}
 use Rattle.kd_lease.specs.declared.plan.PlanKind.TheVariants as kinds
 
@@ -53,7 +54,7 @@ configured_for q kinds.Nak yiaddr = []
 -- the configured options, the relay agent information as it came
 unfoldable pub reply_options : Asking → PlanKind → ℕ → List ReplyOption
 reply_options q kind yiaddr =
-    obligatory 53 (plan_type kind ∷ []) ++ obligatory 54 (big_bytes 4 q.config.server)
+    obligatory 53 (plan_type kind ∷ []) ++ obligatory 54 (big_bytes 4 (server_identifier q.config q.message))
     ++ times_in kind (granted_times q yiaddr)
     ++ returned 61 (value_of 61 q.message.options) ++ configured_for q kind yiaddr
     ++ returned 82 (value_of 82 q.message.options)

@@ -25,6 +25,7 @@ use Rattle.kd_lease.specs.Client.{kind_of, named_server, requested_address}
 use Rattle.kd_lease.specs.Kept.{ciaddr_in, is_leased_in, kept_in, passes, unseen_reservation}
 use Rattle.kd_lease.specs.Plan.{Outcome}
 use Rattle.kd_lease.specs.Plan.Outcome.{planned, quiet}
+use Rattle.kd_lease.specs.Server.{names_another}
 use Rattle.kd_lease.specs.SubnetOf.{subnet_serving}
 use Rattle.kd_lease.specs.Times.{times_in_subnet}
 use Rattle.kd_lease.specs.declared.plan.PlanKind.{PlanKind}
@@ -131,11 +132,6 @@ IsNewest rows such (Some a) =
 abbrev pub row_of_offer : Asking → ℕ → Option Row
 row_of_offer q a = if leased_to q a then None else Some (offered_row q a)
 
--- a message names another server
-abbrev pub other_server : ℕ → Option ℕ → Bool
-other_server server None = false
-other_server server (Some named) = not (named == server)
-
 -- the address of a REQUEST that names no server: the one that the client has, or else the one that
 -- it asks for
 abbrev pub renewed_address : Seen → Option ℕ
@@ -196,7 +192,7 @@ known_in q (Some s) = list_any (λ row. is_record q s row.address) q.rows
 
 -- a message about this address passes a check
 abbrev pub holds_at : Asking → Option ℕ → Check → Bool
-holds_at q about checks.Server = not (other_server q.config.server (named_server q.message))
+holds_at q about checks.Server = not (names_another q.config q.message)
 holds_at q about checks.Address = is_some about
 holds_at q about checks.Choice = is_some about
 holds_at q about checks.Subnet = is_some (serving_subnet q)

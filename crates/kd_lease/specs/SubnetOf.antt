@@ -2,15 +2,15 @@
 -- Manual, sections How the DHCPv4 Server Selects a Subnet for the Client and Using a Specific Relay
 -- Agent for a Subnet).
 use Rattle.std.specs.Prelude.{ℕ, Bool, true, not, ◌&&◌, ◌==◌, is_none, List, Option, Some, None, option_map, if◌then◌else◌}
-use Rattle.std.specs.List.{find, list_all, list_any}
+use Rattle.std.specs.List.{find, list_any}
 use Rattle.kd_config.specs.Address.{has_address}
+use Rattle.kd_config.specs.Classed.{classes_admit}
 use Rattle.kd_config.specs.Configuration.{Configuration}
 use Rattle.kd_config.specs.Networks.{home_of}
 use Rattle.kd_config.specs.declared.subnet.Subnet.{Subnet}
-use Rattle.kd_machine.specs.Parts.{is_held}
 use Rattle.kd_options.specs.Message.{Seen}
 use Rattle.kd_wire.specs.declared.header.Header.{Header}
-use Rattle.kd_lease.specs.Client.{selected_link}
+use Rattle.kd_lease.specs.Client.{address_or, selected_link}
 
 -- the link that the relay of a message selects (RFC 3527), in configurations that let relays do so
 abbrev pub link_of : Configuration → Seen → Option ℕ
@@ -23,18 +23,9 @@ abbrev pub header_place : ℕ → Header → ℕ
 header_place server h =
     if not (h.giaddr == 0) then h.giaddr else if not (h.ciaddr == 0) then h.ciaddr else server
 
--- an address, or else another one
-abbrev pub address_or : Option ℕ → ℕ → ℕ
-address_or None other = other
-address_or (Some a) other = a
-
 -- where a message comes from: the link that its relay selects, or else what its header says
 abbrev pub message_place : Configuration → Seen → ℕ
 message_place config m = address_or (link_of config m) (header_place config.server m.header)
-
--- each class that a subnet or a pool requires is held
-abbrev pub classes_admit : List (List ℕ) → List (List ℕ) → Bool
-classes_admit classes names = list_all (λ class. is_held class names) classes
 
 -- a subnet names this address as that of a relay of its own
 abbrev pub has_relay : ℕ → Subnet → Bool

@@ -10,8 +10,7 @@ use crate::candidates::Choosing;
 use crate::fit::is_holding;
 use crate::question::Question;
 use crate::search::{Sought, is_newer, is_offered, is_sought};
-use crate::subnet::admits;
-use kd_config::Pool;
+use kd_config::{Pool, admits};
 use kd_machine::Held;
 use kd_rows::{Row, Rows, State};
 

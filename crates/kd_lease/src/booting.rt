@@ -42,14 +42,14 @@ fn fields_at(question: &Question<'_>, address: u32) -> BootFields
     ensures { let q = asking question.now in result ≡ fields_in q (serving_subnet q) address }
 {
     match question.subnet {
-        Some(subnet) => fields_from(boot_in(question, subnet, address)),
+        Some(subnet) => fields_from(boot_at_address(question, subnet, address)),
         None => fields_from(Boot::none()),
     }
 }
 
 // Returns what is given to the boot fields at an address of the subnet that serves a message.
 #[tactic(auto, unfolding(crate::specs::Booting::boots_given), using(crate::proofs::Boots::three_boots))]
-fn boot_in(question: &Question<'_>, subnet: &Subnet, address: u32) -> Boot
+fn boot_at_address(question: &Question<'_>, subnet: &Subnet, address: u32) -> Boot
     requires { serving_subnet (asking question.now) ≡ Some subnet.now }
     ensures { let q = asking question.now in
         result ≡ first_boot (boots_given q.config subnet.now q.names q.message address) }

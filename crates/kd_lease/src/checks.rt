@@ -14,7 +14,7 @@ use crate::question::Question;
 use crate::reservation::is_reserved;
 use crate::rule::{Check, Ending, Line};
 use crate::search::{is_client_at, is_held_at, knows_client};
-use crate::server::{names_other, server_of};
+use crate::server::is_for_another;
 use kd_config::Subnet;
 
 /// Returns how a message ends: as the first check of its rule that it does not pass says, or if it
@@ -54,7 +54,7 @@ pub fn holds(matter: &Matter<'_>, check: Check) -> bool
         ..
     } = *matter;
     match check {
-        Check::Server => !names_other(question.config.server(), server_of(question.message)),
+        Check::Server => !is_for_another(question.config, question.message),
         Check::Address => address.is_some(),
         Check::Choice => address.is_some(),
         Check::Subnet => question.subnet.is_some(),

@@ -8,7 +8,7 @@ ghost use Rattle.kd_lease.specs.Valuing.{HasValues, HaveCodes};
 ghost use Rattle.kd_wire.specs.Area.{IsCode};
 
 use crate::client::asks_for;
-use crate::parts::{part_with, pool_options_with};
+use crate::parts::{part_that_has, pool_options_with};
 use crate::question::Question;
 use crate::reply::put_optional;
 use crate::reservation::reservation_options;
@@ -39,7 +39,7 @@ pub(crate) fn put_given(
         message,
         ..
     } = *question;
-    let part = part_with(question, subnet, address);
+    let part = part_that_has(question, subnet, address);
     let mask = mask_of(part.prefix);
     let host = reservation_options(config, names, message, subnet, address);
     let classes = config.classes();

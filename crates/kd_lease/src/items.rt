@@ -7,6 +7,7 @@ use crate::given::put_given;
 use crate::plan::PlanKind;
 use crate::question::Question;
 use crate::reply::{put_obligatory, put_returned};
+use crate::server::server_identifier_of;
 use crate::times::times_for;
 use kd_config::Times;
 use kd_options::codes::{
@@ -31,7 +32,7 @@ pub(crate) fn reply_items(
         (λ items. map option_of_item items ≡ reply_options (asking question.now) kind yiaddr) }
 {
     let message = question.message;
-    let server = question.config.server().to_be_bytes();
+    let server = server_identifier_of(question.config, message).to_be_bytes();
     let mut list = Vec::with_capacity(alloc, USUAL)?;
     put_obligatory(alloc, &mut list, OPTION_MESSAGE_TYPE, &[reply_type(kind)])?;
     put_obligatory(alloc, &mut list, OPTION_SERVER_IDENTIFIER, &server)?;

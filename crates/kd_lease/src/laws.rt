@@ -1,6 +1,6 @@
 //! What is true of the rules, whatever the program does. Each law is the contract of a function
 //! that does nothing.
-ghost use Rattle.kd_lease.specs.Laws.{EndsAreFounded, EndsDecide, HeldHasNoRank, HeldIsNotGiven, HeldIsNotUsable, KnownByMessage, KnownByRecord, NakSetsNone, OneAnswer, OneChange, PlaceByHeader, RenewedByClass, ReservedByList, ServesAlone, ServesByPrefix, SetsNow, StandsAlone, StrangersAreRefused};
+ghost use Rattle.kd_lease.specs.Laws.{EndsAreFounded, EndsDecide, HeldHasNoRank, HeldIsNotGiven, HeldIsNotUsable, KnownByAddress, KnownByMessage, KnownByRecord, NakSetsNone, OneAnswer, OneChange, PlaceByHeader, RenewedByClass, ReservedByList, ServesAlone, ServesByPrefix, SetsNow, StandsAlone, StrangersAreRefused};
 
 /// A row that a message sets has the time of the message as its time of change.
 pub fn sets_now()
@@ -27,6 +27,12 @@ pub fn serves_alone()
 /// comes from.
 pub fn place_by_header()
     ensures { PlaceByHeader }
+{}
+
+/// Where relays set no identifiers, or a message came through no relay, the server is known by its
+/// address alone.
+pub fn known_by_address()
+    ensures { KnownByAddress }
 {}
 
 /// Where clients keep no leases, a message is served by its place and classes, and an address that

@@ -71,6 +71,6 @@ pub use reservation::{
 };
 pub use rule::{Check, Ending, Line, Rule};
 pub use search::{is_client_at, is_held_at, knows_client};
-pub use server::{renewed_of, server_of};
+pub use server::{renewed_of, server_identifier_of, server_of};
 pub use subnet::{comes_by_relay, is_at, link_selected, place_of, pool_options, serves, subnet_of};
 pub use verdict::{Decision, Verdict};

@@ -31,7 +31,11 @@ pub(crate) fn client_part<'a>(
 // Returns the subnet that has an address, in host order: of a shared network one of its subnets, otherwise
 // the given one, which serves the message. A network is not searched for the client's own address again.
 #[tactic(auto, using(crate::proofs::Members::known_part))]
-pub(crate) fn part_with<'a>(question: &Question<'a>, subnet: &'a Subnet, address: u32) -> &'a Subnet
+pub(crate) fn part_that_has<'a>(
+    question: &Question<'a>,
+    subnet: &'a Subnet,
+    address: u32,
+) -> &'a Subnet
     requires { serving_subnet (asking question.now) ≡ Some subnet.now }
     ensures { result.now ≡ part_holding question.now.config.now.subnets subnet.now address }
 {

@@ -8,8 +8,7 @@ use crate::candidates::Choosing;
 use crate::fit::is_common;
 use crate::free::{is_untaken, next_untaken};
 use crate::question::Question;
-use crate::subnet::admits;
-use kd_config::{Pool, Range, Subnet};
+use kd_config::{Pool, Range, Subnet, admits};
 
 // Returns the first address in pool order that fits and has no row (`new`), or whose row has ended
 // (otherwise).

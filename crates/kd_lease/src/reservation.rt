@@ -1,16 +1,13 @@
 ghost use Rattle.std.specs.Prelude.{◌≡◌, ◌&&◌, None, Some, if◌then◌else◌};
 ghost use Rattle.std.specs.List.{find, list_any};
 ghost use Rattle.std.specs.Option.{option_copied};
-ghost use Rattle.kd_config.specs.Reservation.{is_client, is_client_if};
 ghost use Rattle.kd_lease.specs.Choice.{reserved_anywhere, reserved_in, client_reservation, address_reserved, is_from, ranked_reservation, reservation_by, same_value};
 ghost use Rattle.kd_lease.specs.Given.{reserved_options};
 ghost use Rattle.kd_lease.specs.Kept.{if_unseen, is_behind_circuit, is_own, is_own_in_classes, may_be_unseen, renews_alone, reservation_at, unseen_reservation};
 ghost use Rattle.kd_lease.specs.Seeking.{reserves};
-ghost use Rattle.kd_lease.specs.SubnetOf.{classes_admit};
 
 use crate::client::identity_bytes;
 use crate::keeping::is_renewed_alone;
-use crate::subnet::admits;
 use kd_classes::OptionData;
 use kd_config::{Config, Identity, IdentityKind, Reservation, Subnet};
 use kd_machine::Held;
@@ -82,7 +79,7 @@ fn ranked<'a>(
 }
 
 // Returns the first reservation for the client of a message by a kind of identity whose classes are
-// held. Most often it is the first for the client, which takes no search.
+// held.
 fn by_kind<'a>(
     names: &Held,
     message: &Message<'_>,
@@ -91,62 +88,9 @@ fn by_kind<'a>(
 ) -> Option<&'a Reservation>
     ensures { option_copied result ≡ reservation_by names.now message.now subnet.now kind }
 {
-    let bytes = identity_bytes(message, kind);
-    match subnet.reservations.of_kind(kind, bytes) {
-        Some(first) if admits(first.classes.as_slice(), names) => Some(first),
-        Some(_) => admitted(names, kind, bytes, subnet.reservations.as_slice()),
-        None => None,
-    }
-}
-
-// Returns the first of these reservations for the client with bytes by a kind of identity, if there are
-// bytes, whose classes are held.
-fn admitted<'a>(
-    names: &Held,
-    kind: IdentityKind,
-    bytes: Option<&[u8]>,
-    reservations: &'a [Reservation],
-) -> Option<&'a Reservation>
-    ensures { option_copied result
-        ≡ find (λ reservation. is_client_if kind (option_copied bytes.entry) reservation.identity
-        && classes_admit reservation.classes names.now) reservations.now }
-{
-    reservations
-        .iter()
-        .find(|reservation| counts(names, kind, bytes, reservation))
-}
-
-// Reports whether a reservation is for the client with bytes by a kind of identity, if there are bytes,
-// and its classes are held.
-fn counts(names: &Held, kind: IdentityKind, bytes: Option<&[u8]>, reservation: &Reservation) -> bool
-    ensures { result
-        ≡ (is_client_if kind (option_copied bytes.entry) reservation.now.identity
-        && classes_admit reservation.now.classes names.now) }
-{
-    is_known_by(kind, bytes, &reservation.identity) && admits(reservation.classes.as_slice(), names)
-}
-
-// Reports whether the client has bytes by a kind of identity, if there are bytes.
-fn is_known_by(kind: IdentityKind, bytes: Option<&[u8]>, identity: &Identity) -> bool
-    ensures { result ≡ is_client_if kind (option_copied bytes.entry) identity.now }
-{
-    match bytes {
-        Some(bytes) => has_bytes(kind, bytes, identity),
-        None => false,
-    }
-}
-
-// Reports whether the client has these bytes by a kind of identity.
-fn has_bytes(kind: IdentityKind, bytes: &[u8], identity: &Identity) -> bool
-    ensures { result ≡ is_client kind bytes.now identity.now }
-{
-    match (kind, identity) {
-        (IdentityKind::Hardware, Identity::Hardware(own)) => bytes == own.as_slice(),
-        (IdentityKind::Duid, Identity::Duid(own)) => bytes == own.as_slice(),
-        (IdentityKind::Circuit, Identity::Circuit(own)) => bytes == own.as_slice(),
-        (IdentityKind::ClientId, Identity::ClientId(own)) => bytes == own.as_slice(),
-        _ => false,
-    }
+    subnet
+        .reservations
+        .admitting(kind, identity_bytes(message, kind), names)
 }
 
 /// Returns the reservation that counts for the reply to a message with an address, in host order: that

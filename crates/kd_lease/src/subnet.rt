@@ -3,14 +3,14 @@ ghost use Rattle.std.specs.List.{find, list_any};
 ghost use Rattle.kd_config.specs.Apart.{has};
 ghost use Rattle.kd_lease.specs.Given.{options_of_pool};
 ghost use Rattle.kd_lease.specs.Client.{selected_link};
-ghost use Rattle.kd_lease.specs.SubnetOf.{classes_admit, first_serving, has_place, header_place, is_by_relay, link_of, message_place, served_by, subnet_serving};
+ghost use Rattle.kd_lease.specs.SubnetOf.{first_serving, has_place, header_place, is_by_relay, link_of, message_place, served_by, subnet_serving};
 
 use crate::fit::address_in;
 use kd_classes::OptionData;
-use kd_config::{Config, Pool, Subnet};
+use kd_config::{Config, Pool, Subnet, admits};
 use kd_machine::Held;
 use kd_options::Message;
-use kd_wire::{Bytes, Header};
+use kd_wire::Header;
 
 // The sub-option of relay information with the link that a relay selects (RFC 3527 section 2).
 const LINK_SELECTION: u8 = 5;
@@ -137,13 +137,6 @@ fn names_relay(address: u32, relays: &[u32]) -> bool
     ensures { result ≡ list_any (λ relay. relay == address) relays.now }
 {
     relays.iter().any(|relay| *relay == address)
-}
-
-// Reports whether each class that a subnet or a pool requires is held.
-pub(crate) fn admits(classes: &[Bytes], names: &Held) -> bool
-    ensures { result ≡ classes_admit classes.now names.now }
-{
-    classes.iter().all(|class| names.contains(class.as_slice()))
 }
 
 /// Returns the options of the first pool of the subnet that contains the address, in host order;

@@ -8,7 +8,7 @@ use Rattle.kd_lease.proofs.given.put_given.Goals as goal
 pub put_values-requires : goal.put_values-requires
 put_values-requires c =
     let q = asking c.args.question.now in
-    let near = c.reservation_options-host.result.now ++ c.pool_options_with-pool.result.now ++ c.part_with-part.result.now.options ++ c.part_with-part.result.now.shared in
+    let near = c.reservation_options-host.result.now ++ c.pool_options_with-pool.result.now ++ c.part_that_has-part.result.now.options ++ c.part_that_has-part.result.now.shared in
     let classes = class_options c.classes-classes.result.now q.names in
     let one = c.in_ok-values.ensures in
     let two = c.in_ok-put_class_options.ensures near one in
@@ -21,7 +21,7 @@ returns c =
     let q = asking c.args.question.now in
     let subnet = c.args.subnet.now in
     let address = c.args.address in
-    let part = c.part_with-part.result.now in
+    let part = c.part_that_has-part.result.now in
     let pool = c.pool_options_with-pool.result.now in
     let near = c.reservation_options-host.result.now ++ pool ++ part.options ++ part.shared in
     let classes = class_options c.classes-classes.result.now q.names in
@@ -34,4 +34,4 @@ returns c =
     c.put_values.ensures
     (given q.config subnet q.names q.message address)
     (subst (λ options. HasValues c.put.new.self.list.items options)
-    (all_given q.config subnet part q.names q.message address c.reservation_options-host.result.now pool classes all c.mask_of-mask.result c.reservation_options-host.ensures c.pool_options_with-pool.ensures c.part_with-part.ensures held c.options.ensures.same c.mask_of-mask.ensures) four)
+    (all_given q.config subnet part q.names q.message address c.reservation_options-host.result.now pool classes all c.mask_of-mask.result c.reservation_options-host.ensures c.pool_options_with-pool.ensures c.part_that_has-part.ensures held c.options.ensures.same c.mask_of-mask.ensures) four)
