@@ -27,7 +27,8 @@ def run(program, words, text=""):
 
 
 def passed_over(asked):
-    """Why each subnet is passed over, up to the one that serves: by its place, or by the first class that the client lacks."""
+    """Why each subnet is passed over, up to the one that serves: by its place, or by the first class that the client lacks. The
+    class counts too if the subnet names the relay, and no subnet that does so admits the client."""
     root, relay = asked.root, judge.dotted(asked.datagram[24:28])
     place = judge.place_of_message(root, asked.datagram, asked.found)
     link = judge.selected_link(root, asked.datagram, asked.found)
@@ -36,9 +37,9 @@ def passed_over(asked):
     is_named = any(judge.has_classes(judge.classes_of(*pair), asked.held) for pair in naming)
     for subnet, network in pairs:
         lacking = [name for name in judge.classes_of(subnet, network) if name.encode() not in asked.held]
-        if is_named and (subnet, network) not in naming:
+        if (subnet, network) not in naming and is_named:
             yield f"{relay} is no relay of it"
-        elif not is_named and not judge.contains(subnet, place):
+        elif (subnet, network) not in naming and not judge.contains(subnet, place):
             yield f"{histories.dotted_number(place)} is outside"
         elif lacking:
             yield f"the client is not in class {lacking[0]}"

@@ -91,15 +91,15 @@ module _ (Line : Item → List ℕ → Type 0) (items : List Item) where
       (lead [] (subst (λ (left : List Item). AreOptionLines Line left []) (sym (at_drop_all (λ xs. xs) items i past)) refl))
 
 -- no subnets remain to serve
-pub none_left : (by_relay : Bool) (place : ℕ) (names : List (List ℕ)) (left : List Subnet) → length left < 1
-    → codes "subnet - none serves\n" ≡ sought_lines by_relay place names left
+pub none_left : (relayed by_relay : Bool) (place : ℕ) (names : List (List ℕ)) (left : List Subnet) → length left < 1
+    → codes "subnet - none serves\n" ≡ sought_lines relayed by_relay place names left
 unfolding sought_lines
-none_left by_relay place names [] h = refl
-none_left by_relay place names (s ∷ left) h = absurd (omega (arith, h))
+none_left relayed by_relay place names [] h = refl
+none_left relayed by_relay place names (s ∷ left) h = absurd (omega (arith, h))
 
-module _ (by_relay : Bool) (place : ℕ) (names : List (List ℕ)) (s : Subnet) (subnets : List Subnet) where
+module _ (relayed by_relay : Bool) (place : ℕ) (names : List (List ℕ)) (s : Subnet) (subnets : List Subnet) where
   -- the lines of subnets, the first of which does not serve
   pub passed_first : served_by by_relay place names s ≡ false
-      → sought_lines by_relay place names (s ∷ subnets) ≡ sought_line s (passed_words by_relay place names s) ++ sought_lines by_relay place names subnets
+      → sought_lines relayed by_relay place names (s ∷ subnets) ≡ sought_line s (passed_words relayed by_relay place names s) ++ sought_lines relayed by_relay place names subnets
   unfolding sought_lines
-  passed_first is = ap (λ b. if b then sought_line s (codes " serves") ++ flat_map (later_line s) subnets else sought_line s (passed_words by_relay place names s) ++ sought_lines by_relay place names subnets) is
+  passed_first is = ap (λ b. if b then sought_line s (codes " serves") ++ flat_map (later_line s) subnets else sought_line s (passed_words relayed by_relay place names s) ++ sought_lines relayed by_relay place names subnets) is

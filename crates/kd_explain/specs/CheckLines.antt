@@ -40,12 +40,11 @@ sender_line m =
 abbrev pub which_word : Bool → List ℕ
 which_word is_this = if is_this then codes "this one" else codes "another one"
 
--- the server that a message names
-abbrev pub server_line : ℕ → Option ℕ → List ℕ
-server_line server None = codes "check server: none is named\n"
-server_line server (Some named) =
-    codes "check server: " ++ address_text named ++ codes " is " ++ which_word (server == named)
-    ++ codes "\n"
+-- the server that a message names, which is this one or not
+abbrev pub server_line : Bool → Option ℕ → List ℕ
+server_line is_this None = codes "check server: none is named\n"
+server_line is_this (Some named) =
+    codes "check server: " ++ address_text named ++ codes " is " ++ which_word is_this ++ codes "\n"
 
 -- the offer that a client gives back because it requests from another server
 abbrev pub offer_line : Option Row → List ℕ
@@ -184,7 +183,8 @@ held_line is_held = codes "check held: " ++ yes_word is_held ++ codes "\n"
 
 -- the line of a check of a message about this address
 abbrev pub rule_line : Asking → Rule → Option ℕ → Check → List ℕ
-rule_line q rule a checks.Server = server_line q.config.server (named_server q.message)
+rule_line q rule a checks.Server =
+    server_line (holds_at q a checks.Server) (named_server q.message)
 rule_line q rule a checks.Address = address_line a (address_source rule q.message)
 rule_line q rule a checks.Choice = []
 rule_line q rule a checks.Subnet = served_line (serving_subnet q)

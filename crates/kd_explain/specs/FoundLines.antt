@@ -1,6 +1,6 @@
 -- The lines of what a message is and of what is found for it: its classes, its place, its subnet,
 -- its reservation and the ranks of addresses.
-use Rattle.std.specs.Prelude.{ℕ, ◌==◌, ◌&&◌, not, Bool, true, false, is_some, if◌then◌else◌, List, [], ◌∷◌, ◌++◌, drop, Option, Some, None, Result, Err, codes, decimal, option_copied}
+use Rattle.std.specs.Prelude.{ℕ, ◌==◌, ◌&&◌, ◌||◌, not, Bool, true, false, is_none, is_some, if◌then◌else◌, List, [], ◌∷◌, ◌++◌, drop, Option, Some, None, Result, Err, codes, decimal, option_copied}
 use Rattle.std.specs.List.{find, flat_map}
 use Rattle.kd_classes.specs.declared.definition.ClassDef.{ClassDef}
 use Rattle.kd_config.specs.Configuration.{Configuration}
@@ -12,7 +12,7 @@ use Rattle.kd_event.specs.declared.reason.Reason.{Reason}
 use Rattle.kd_event.specs.declared.reason.Reason.TheVariants as reasons
 use Rattle.kd_lease.specs.Client.{kind_of, named_server, requested_address}
 use Rattle.kd_lease.specs.Kept.{has_to_keep}
-use Rattle.kd_lease.specs.SubnetOf.{has_place, is_by_relay, link_of, message_place, served_by}
+use Rattle.kd_lease.specs.SubnetOf.{has_place, has_relay, is_by_relay, link_of, message_place, served_by}
 use Rattle.kd_lease.specs.declared.plan.Plan.{Plan}
 use Rattle.kd_lease.specs.declared.ranks.Ranks.{Ranks}
 use Rattle.kd_machine.specs.Parts.{is_held}
@@ -124,11 +124,19 @@ elsewhere_words by_relay = if by_relay then codes " is no relay of it" else code
 abbrev pub missing_class : List (List ℕ) → List (List ℕ) → Option (List ℕ)
 missing_class classes names = find (λ class. not (is_held class names)) classes
 
--- why a subnet is passed over: the place is no relay of it, or outside its prefix; otherwise the
--- message is not in one of its classes, of which the first is named
-unfoldable pub passed_words : Bool → ℕ → List (List ℕ) → Subnet → List ℕ
-passed_words by_relay place names s =
-    if has_place by_relay place s
+-- a message came through a relay, which selects no link; its place is then that relay
+abbrev pub is_relayed : Configuration → Seen → Bool
+is_relayed config m = is_none (link_of config m) && not (m.header.giaddr == 0)
+
+-- only its classes can keep a subnet from serving: it has the place, or names the relay
+abbrev pub is_candidate : Bool → Bool → ℕ → Subnet → Bool
+is_candidate relayed by_relay place s = has_place by_relay place s || (relayed && has_relay place s)
+
+-- why a subnet is passed over: the message is not in one of its classes, of which the first is
+-- named; or else the place is no relay of it, or outside its prefix
+unfoldable pub passed_words : Bool → Bool → ℕ → List (List ℕ) → Subnet → List ℕ
+passed_words relayed by_relay place names s =
+    if is_candidate relayed by_relay place s
     then codes " passed over: the client is not in class " ++ class_word (missing_class s.classes names)
     else codes " passed over: " ++ address_text place ++ elsewhere_words by_relay
 
@@ -146,12 +154,13 @@ later_line serving s = sought_line s (later_words (shares_network serving s))
 
 -- the lines of subnets for a place and a message with these class names: those that are passed
 -- over, the first that serves, and those after it
-unfoldable pub sought_lines : Bool → ℕ → List (List ℕ) → List Subnet → List ℕ
-sought_lines by_relay place names [] = codes "subnet - none serves\n"
-sought_lines by_relay place names (s ∷ subnets) =
+unfoldable pub sought_lines : Bool → Bool → ℕ → List (List ℕ) → List Subnet → List ℕ
+sought_lines relayed by_relay place names [] = codes "subnet - none serves\n"
+sought_lines relayed by_relay place names (s ∷ subnets) =
     if served_by by_relay place names s
     then sought_line s (codes " serves") ++ flat_map (later_line s) subnets
-    else sought_line s (passed_words by_relay place names s) ++ sought_lines by_relay place names subnets
+    else sought_line s (passed_words relayed by_relay place names s)
+    ++ sought_lines relayed by_relay place names subnets
 
 -- what a subnet is to an address whose lease is kept
 abbrev pub keeping_words : Bool → List ℕ
@@ -167,7 +176,8 @@ keeping_line a s = sought_line s (keeping_words (has_to_keep a s))
 -- place and the classes of the message
 abbrev pub served_lines : Option Subnet → Configuration → List (List ℕ) → Seen → List ℕ
 served_lines None config names m =
-    sought_lines (is_by_relay config names m) (message_place config m) names config.subnets
+    sought_lines (is_relayed config m) (is_by_relay config names m) (message_place config m) names
+    config.subnets
 served_lines (Some kept) config names m =
     flat_map (keeping_line m.header.ciaddr) config.subnets
 

@@ -145,7 +145,7 @@ fn put_check(
 {
     let Matter { question, .. } = *matter;
     match check {
-        Check::Server => put_server(out, question.config.server(), server_of(question.message)),
+        Check::Server => put_server(out, holds(matter, check), server_of(question.message)),
         Check::Address => put_address_found(out, matter),
         Check::Choice => Ok(()),
         Check::Subnet => put_subnet_found(out, question.subnet),

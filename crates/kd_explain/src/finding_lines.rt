@@ -33,17 +33,17 @@ pub(crate) fn put_sender(out: &mut String, message: &Message<'_>) -> Result<(), 
     writeln!(out, "check sender: a server, by type {name}")
 }
 
-// Prints the server that a message names.
+// Prints the server that a message names, which is this one or not.
 pub(crate) fn put_server(
     out: &mut String,
-    server: u32,
+    is_this: bool,
     named: Option<u32>,
 ) -> Result<(), AllocError>
     ensures { OnOk result (string_bytes out.new
-        ≡ string_bytes out.old ++ server_line server named) }
+        ≡ string_bytes out.old ++ server_line is_this named) }
 {
     match named {
-        Some(named) => put_named_server(out, named, server == named),
+        Some(named) => put_named_server(out, named, is_this),
         None => out.push_str("check server: none is named\n"),
     }
 }

@@ -1,7 +1,7 @@
 ghost use Rattle.std.specs.Prelude.{◌≡◌, ◌++◌, OnOk, codes, option_copied, string_bytes};
 ghost use Rattle.std.specs.List.{flat_map};
 ghost use Rattle.kd_lease.specs.SubnetOf.{is_by_relay, message_place};
-ghost use Rattle.kd_explain.specs.FoundLines.{class_word, elsewhere_words, header_word, keeping_line, keeping_words, key_word, later_line, later_words, missing_class, passed_words, place_line, place_word};
+ghost use Rattle.kd_explain.specs.FoundLines.{class_word, elsewhere_words, header_word, is_candidate, is_relayed, keeping_line, keeping_words, key_word, later_line, later_words, missing_class, passed_words, place_line, place_word};
 ghost use Rattle.kd_explain.specs.FoundLines.{reservation_line, reserved_line, shares_network, sought_line, sought_lines, served_lines};
 
 use crate::text::Scene;
@@ -55,10 +55,11 @@ fn header_source(header: &Header) -> &'static str
     }
 }
 
-// Where a message comes from, whether that is a relay that a subnet names, and the names of the
-// classes that it is in. These choose its subnet.
+// Where a message comes from, whether that is a relay, whether subnets are asked for their relays
+// and not for their prefixes, and the names of the classes that the message is in.
 #[derive(Clone, Copy)]
 struct Sought<'a> {
+    relayed: bool,
     by_relay: bool,
     place: u32,
     names: &'a Held,
@@ -113,18 +114,26 @@ fn keeping_phrase(has_it: bool) -> &'static str
 // Prints the lines of the subnets for the place and the classes of the message.
 fn put_by_place(out: &mut String, scene: &Scene<'_>) -> Result<(), AllocError>
     ensures { OnOk result (string_bytes out.new ≡ string_bytes out.old
-        ++ sought_lines (is_by_relay scene.now.config.now scene.now.explanation.now.names
-        scene.now.message.now)
+        ++ sought_lines (is_relayed scene.now.config.now scene.now.message.now)
+        (is_by_relay scene.now.config.now scene.now.explanation.now.names scene.now.message.now)
         (message_place scene.now.config.now scene.now.message.now)
         scene.now.explanation.now.names scene.now.config.now.subnets) }
 {
     let names = &scene.explanation.names;
     let sought = Sought {
+        relayed: comes_through_relay(scene.config, scene.message),
         by_relay: comes_by_relay(scene.config, names, scene.message),
         place: place_of(scene.config, scene.message),
         names,
     };
     put_sought(scene.alloc, out, sought, scene.config.subnets())
+}
+
+// Reports whether a message came through a relay, which selects no link.
+fn comes_through_relay(config: &Config, message: &Message<'_>) -> bool
+    ensures { result ≡ is_relayed config.now message.now }
+{
+    link_selected(config, message).is_none() && message.header().giaddr != 0
 }
 
 #[tactic(auto, unfolding(crate::specs::FoundLines::sought_lines))]
@@ -135,7 +144,8 @@ fn put_sought(
     subnets: &[Subnet],
 ) -> Result<(), AllocError>
     ensures { OnOk result (string_bytes out.new ≡ string_bytes out.old
-        ++ sought_lines sought.entry.by_relay sought.entry.place sought.entry.names.now subnets.now) }
+        ++ sought_lines sought.entry.relayed sought.entry.by_relay sought.entry.place
+        sought.entry.names.now subnets.now) }
 {
     let mut left = subnets;
     while let [subnet, rest @ ..] = left {
@@ -210,7 +220,8 @@ fn put_passed(
     subnet: &Subnet,
 ) -> Result<(), AllocError>
     ensures { OnOk result (string_bytes out.new ≡ string_bytes out.old ++ sought_line subnet.now
-        (passed_words sought.entry.by_relay sought.entry.place sought.entry.names.now subnet.now)) }
+        (passed_words sought.entry.relayed sought.entry.by_relay sought.entry.place
+        sought.entry.names.now subnet.now)) }
 {
     out.push_str("subnet ")?;
     put_prefix(out, subnet.prefix.address, subnet.prefix.length)?;
@@ -218,7 +229,8 @@ fn put_passed(
     out.push_str("\n")
 }
 
-// Prints why a subnet is passed over. The place is checked before the class.
+// Prints why a subnet is passed over. The place is checked before the class. Prefixes count if no
+// subnet that names the relay admits the client; such a subnet still lacks only the class.
 #[tactic(auto, unfolding(crate::specs::FoundLines::passed_words))]
 fn put_why_passed(
     alloc: Global,
@@ -227,10 +239,10 @@ fn put_why_passed(
     subnet: &Subnet,
 ) -> Result<(), AllocError>
     ensures { OnOk result (string_bytes out.new ≡ string_bytes out.old
-        ++ passed_words sought.entry.by_relay sought.entry.place sought.entry.names.now
-        subnet.now) }
+        ++ passed_words sought.entry.relayed sought.entry.by_relay sought.entry.place
+        sought.entry.names.now subnet.now) }
 {
-    if is_at(sought.by_relay, sought.place, subnet) {
+    if is_in_reach(sought, subnet) {
         out.push_str(" passed over: the client is not in class ")?;
         put_class_name(
             alloc,
@@ -242,6 +254,16 @@ fn put_why_passed(
         put_address(out, sought.place)?;
         out.push_str(elsewhere(sought.by_relay))
     }
+}
+
+// Reports whether a subnet has the place, or names the relay. Then only its classes can keep it from
+// serving.
+fn is_in_reach(sought: Sought<'_>, subnet: &Subnet) -> bool
+    ensures { result ≡ is_candidate sought.entry.relayed sought.entry.by_relay sought.entry.place
+        subnet.now }
+{
+    is_at(sought.by_relay, sought.place, subnet)
+        || sought.relayed && is_at(true, sought.place, subnet)
 }
 
 fn elsewhere(by_relay: bool) -> &'static str

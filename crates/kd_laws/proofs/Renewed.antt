@@ -16,7 +16,8 @@ use Rattle.kd_lease.specs.Client.{kind_of, named_server, requested_address}
 use Rattle.kd_lease.specs.Kept.{bound_state, ciaddr_in, has_to_keep, if_for_circuit, if_unseen, is_behind_circuit, is_leased_in, is_own_in_classes, passes, renews_lease, subnet_keeping, unseen_reservation}
 use Rattle.kd_lease.specs.Laws.{EndsDecide}
 use Rattle.kd_lease.specs.Plan.{Outcome}
-use Rattle.kd_lease.specs.Rules.{Does, IsAbout, IsReplyOf, Makes, checks_in, client_has, ending, ends_by, fails, holds_at, kept_subnet, known_in, lasting_for, leased_row, may_last, other_server, passes_in, rule_by, rule_of, serving_subnet}
+use Rattle.kd_lease.specs.Rules.{Does, IsAbout, IsReplyOf, Makes, checks_in, client_has, ending, ends_by, fails, holds_at, kept_subnet, known_in, lasting_for, leased_row, may_last, passes_in, rule_by, rule_of, serving_subnet}
+use Rattle.kd_lease.specs.Server.{other_server, server_identifier}
 use Rattle.kd_lease.specs.SubnetOf.{subnet_serving}
 use Rattle.kd_lease.specs.declared.plan.PlanKind.TheVariants as kinds
 use Rattle.kd_lease.specs.declared.rule.Check.{Check}
@@ -135,7 +136,7 @@ module _ (q : Asking) (keeps : q.config.extensions.keeps_leases ≡ true) (renew
       (and_from (is_some (kept_subnet q)) (may_last q.config q.message (home_of q.config.subnets first.0) q.message.header.ciaddr) (ap is_some kept) may)
 
   server : holds_at q (Some a) checks.Server ≡ true
-  server = ap (λ (o : Option ℕ). not (other_server q.config.server o)) unnamed
+  server = ap (λ (o : Option ℕ). not (other_server q.config.server o && other_server (server_identifier q.config q.message) o)) unnamed
 
   prefix : holds_at q (Some a) checks.Prefix ≡ true
   prefix = ap (λ (o : Option Subnet). passes_in (covers q.config.subnets) o (Some a)) serves ∙ is_home

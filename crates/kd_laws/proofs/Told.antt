@@ -23,6 +23,7 @@ use Rattle.kd_lease.specs.Plan.{ReplyOption}
 use Rattle.kd_lease.specs.ReplyOf.{obligatory, returned}
 use Rattle.kd_lease.specs.ReplyOptions.{configured_for, configured_in, plan_type, reply_options, times_in}
 use Rattle.kd_lease.specs.Rules.{granted_times, serving_subnet}
+use Rattle.kd_lease.specs.Server.{server_identifier}
 use Rattle.kd_lease.specs.declared.plan.PlanKind.{PlanKind}
 use Rattle.kd_lease.specs.declared.plan.PlanKind.TheVariants as kinds
 use Rattle.kd_machine.specs.Parts.{is_held}
@@ -179,10 +180,10 @@ module _ (q : Asking) (sound : IsSound q.config) where
         ordered-append 5 6 262 (returned 61 client) behind_client (returned_ordered 5 6 61 client (omega arith) (omega arith)) behind_ordered
 
     -- the options of a reply in parts
-    parts : reply_options q kind yiaddr ≡ obligatory 53 (plan_type kind ∷ []) ++ (obligatory 54 (big_bytes 4 q.config.server) ++ (times_in kind (granted_times q yiaddr) ++ from_client))
+    parts : reply_options q kind yiaddr ≡ obligatory 53 (plan_type kind ∷ []) ++ (obligatory 54 (big_bytes 4 (server_identifier q.config q.message)) ++ (times_in kind (granted_times q yiaddr) ++ from_client))
     unfolding reply_options
     parts =
-        from_front (obligatory 53 (plan_type kind ∷ [])) (obligatory 54 (big_bytes 4 q.config.server)) (times_in kind (granted_times q yiaddr))
+        from_front (obligatory 53 (plan_type kind ∷ [])) (obligatory 54 (big_bytes 4 (server_identifier q.config q.message))) (times_in kind (granted_times q yiaddr))
         (returned 61 (value_of 61 q.message.options)) (configured_for q kind yiaddr) (returned 82 (value_of 82 q.message.options))
 
     -- the options of a reply are in order
@@ -197,7 +198,7 @@ module _ (q : Asking) (sound : IsSound q.config) where
     pub told_type : told 53 (reply_options q kind yiaddr) ≡ Some (plan_type kind ∷ [])
     told_type = ap (told 53) parts
 
-    pub told_server : told 54 (reply_options q kind yiaddr) ≡ Some (big_bytes 4 q.config.server)
+    pub told_server : told 54 (reply_options q kind yiaddr) ≡ Some (big_bytes 4 (server_identifier q.config q.message))
     told_server = ap (told 54) parts
 
     -- what they say of the lifetime

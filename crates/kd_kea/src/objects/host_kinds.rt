@@ -146,11 +146,11 @@ fn is_new_kind(name: &Value, others: &[Value]) -> bool
     ensures { result ≡ (is_kind_name (view name.now)
         && not (is_named_again (view name.now) (items_view others.now))) }
 {
-    is_kind(name) && !comes_again(name, others)
+    names_kind(name) && !comes_again(name, others)
 }
 
 // Reports whether a value is the name of a kind of identity, or `flex-id`.
-fn is_kind(name: &Value) -> bool
+fn names_kind(name: &Value) -> bool
     ensures { result ≡ is_kind_name (view name.now) }
 {
     is_usual(UsualValue::Text("flex-id"), name) || kind_of_name(name).is_some()

@@ -5,5 +5,5 @@ use Rattle.kd_explain.proofs.subnet_lines.put_sought.Goals as goal
 
 pub returns : goal.returns
 returns c =
-    c.in_ok-push_str.ensures.bytes ∙ ap (λ t. string_bytes c.loop-left.out ++ t) (none_left c.args.sought.by_relay c.args.sought.place c.args.sought.names.now c.loop-left.left.now c.in_default.len_below)
+    c.in_ok-push_str.ensures.bytes ∙ ap (λ t. string_bytes c.loop-left.out ++ t) (none_left c.args.sought.relayed c.args.sought.by_relay c.args.sought.place c.args.sought.names.now c.loop-left.left.now c.in_default.len_below)
     ∙ c.loop-left.invariant
