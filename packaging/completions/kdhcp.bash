@@ -23,12 +23,12 @@ _kdhcp() {
     fi
     for word in "${COMP_WORDS[@]:1:COMP_CWORD - 1}"; do
         case $word in
-            show | expr | compile | verify | eval | replay | serve | leases | pools | why | import | events | check | help) command=$word && break ;;
+            show | expr | compile | verify | eval | replay | serve | leases | pools | why | import | events | test | check | help) command=$word && break ;;
             --) return ;;
         esac
     done
     if [[ -z $command ]]; then
-        _kdhcp_words "show expr compile verify eval replay serve leases pools why import events check help -h --help -V --version" "$current"
+        _kdhcp_words "show expr compile verify eval replay serve leases pools why import events test check help -h --help -V --version" "$current"
         return
     fi
     case $command:$option in
@@ -49,7 +49,7 @@ _kdhcp() {
         leases:--at | pools:--at | why:--at) _kdhcp_words "$(date +%s)" "$current" && return ;;
     esac
     case $command in
-        help) _kdhcp_words "show expr compile verify eval replay serve leases pools why import events check" "$current" ;;
+        help) _kdhcp_words "show expr compile verify eval replay serve leases pools why import events test check" "$current" ;;
         eval) _kdhcp_words "--text -h --help" "$current" ;;
         show) _kdhcp_words "--names -h --help" "$current" ;;
         replay) _kdhcp_words "$files --why -h --help" "$current" ;;
@@ -57,6 +57,7 @@ _kdhcp() {
         pools) _kdhcp_words "$files --live --at --prometheus -h --help" "$current" ;;
         why) _kdhcp_words "$files --live --at -h --help" "$current" ;;
         events) _kdhcp_words "--mac --address -h --help" "$current" ;;
+        test) _kdhcp_words "--config --kea --server-address --token-dir -h --help" "$current" ;;
         check) _kdhcp_words "$files --bind --port --max-ahead -h --help" "$current" ;;
         import) _kdhcp_words "--store -h --help" "$current" ;;
         serve)

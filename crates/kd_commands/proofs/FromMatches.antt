@@ -23,7 +23,7 @@ use Rattle.kd_commands.specs.Steps.{AnswersKind, GivesIfThere}
 use Rattle.kd_commands.specs.declared.fault.LineFault.{LineFault}
 use Rattle.kd_commands.specs.declared.fault.LineFault.TheVariants.{CommandLine, Memory}
 use Rattle.kd_commands.specs.declared.orders.Order.{Order}
-use Rattle.kd_commands.specs.declared.orders.Order.TheVariants.{Help, Version, Show, Expr, Compile, Verify, Eval, EvalText, Check, Events, Import, Over}
+use Rattle.kd_commands.specs.declared.orders.Order.TheVariants.{Help, Version, Show, Expr, Compile, Verify, Eval, EvalText, Check, Events, Import, Over, Test}
 
 -- clap reports the matches of this command line, and the kinds of its faults
 is_told : is_simple command_line ≡ true
@@ -60,6 +60,7 @@ asks_for ws (EvalText text datagram) asked gives h = subst (AsksGiven ws) (sym g
 asks_for ws (Over files work) asked gives h = subst (AsksGiven ws) (sym gives) h
 asks_for ws (Import store) asked gives h = subst (AsksGiven ws) (sym gives) h
 asks_for ws (Events mac address) asked gives h = subst (AsksGiven ws) (sym gives) h
+asks_for ws (Test files) asked gives h = subst (AsksGiven ws) (sym gives) h
 asks_for ws (Check files place) asked gives h = subst (AsksGiven ws) (sym gives) h
 
 -- if memory runs out

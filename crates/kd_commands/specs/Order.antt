@@ -23,7 +23,7 @@ use Rattle.kd_commands.specs.declared.orders.Listening.{Listening}
 use Rattle.kd_commands.specs.declared.orders.Place.{Place}
 use Rattle.kd_commands.specs.declared.orders.Order.{Order}
 use Rattle.kd_commands.specs.declared.orders.Order.TheVariants.{Help, Version, Show, Expr, Compile, Verify, Eval, EvalText}
-use Rattle.kd_commands.specs.declared.orders.Order.TheVariants.{Check, Events, Import, Over}
+use Rattle.kd_commands.specs.declared.orders.Order.TheVariants.{Check, Events, Import, Over, Test}
 use Rattle.kd_commands.specs.declared.orders.View.{View}
 use Rattle.kd_commands.specs.declared.orders.View.TheVariants.{Leases, Metrics, Pools, Why}
 use Rattle.kd_commands.specs.declared.orders.Work.{Work}
@@ -47,12 +47,15 @@ pub data Parameter : Type 0 where
   -- an option that is required
   needs_value : Text → Parameter
 
+-- the parameters of a subcommand over a configuration
+abbrev pub config_parameters : List Parameter
+config_parameters =
+    takes_value (codes "config") ∷ takes_value (codes "kea")
+    ∷ takes_value (codes "server-address") ∷ takes_value (codes "token-dir") ∷ []
+
 -- the parameters of a subcommand over files
 abbrev pub file_parameters : List Parameter
-file_parameters =
-    takes_value (codes "config") ∷ takes_value (codes "kea")
-    ∷ takes_value (codes "server-address") ∷ takes_value (codes "token-dir")
-    ∷ takes_value (codes "store") ∷ []
+file_parameters = config_parameters ++ takes_value (codes "store") ∷ []
 
 -- the parameters of a subcommand that prints a view of a store at a time
 abbrev pub view_parameters : List Parameter
@@ -87,6 +90,7 @@ abbrev pub table_around_servers : List (Text × List Parameter)
 table_around_servers =
     (codes "import", needs_value (codes "store") ∷ [])
     ∷ (codes "events", takes_value (codes "mac") ∷ takes_value (codes "address") ∷ [])
+    ∷ (codes "test", config_parameters)
     ∷ (
       codes "check",
       file_parameters ++ takes_value (codes "bind") ∷ takes_value (codes "port")
@@ -214,6 +218,8 @@ pub data Asked : Type 0 where
   -- the lines of a log on standard input, printed for people: those for the hardware address with
   -- these bytes and for this address, if they are given
   filters : Option (List ℕ) → Option ℕ → Asked
+  -- a trial of the configuration in these files
+  tries : Paths → Asked
   -- a trial of each step of a start, without serving, at a socket
   checks : Paths → Place → Asked
 
@@ -328,6 +334,10 @@ filtering_of text = do
   number ← read_if_given address_of (text (codes "address"))
   Some (filters bytes number)
 
+-- what `test` is asked to do
+abbrev pub trying_of : (Text → Option Text) → Option Asked
+trying_of text = option_map (λ paths. tries paths) (paths_of text)
+
 -- what `check` is asked to do, if each text that is given is in range; by default the address is
 -- 127.0.0.1 and the port 67
 abbrev pub checking_of : (Text → Option Text) → Option Asked
@@ -370,9 +380,10 @@ asked_by name text =
     else (if bytes_eq name (codes "import")
     then option_map (λ store. imports store) (text (codes "store"))
     else (if bytes_eq name (codes "events") then filtering_of text
+    else (if bytes_eq name (codes "test") then trying_of text
     else (if bytes_eq name (codes "check") then checking_of text
     else (if bytes_eq name (codes "serve") then serving_of text
-    else None))))))))))))
+    else None)))))))))))))
 
 -- the same for the subcommand that was entered, if any, with its matches
 abbrev pub asked_of : Option (Text × List Row) → Option Asked
@@ -449,6 +460,7 @@ given_by (EvalText text datagram) = Some (tests (string_bytes text) (string_byte
 given_by (Over files work) = working_of files work
 given_by (Import store) = Some (imports (string_bytes store))
 given_by (Events mac address) = Some (filters (option_map (λ bytes. bytes.items) mac) address)
+given_by (Test files) = Some (tries (paths_in files))
 given_by (Check files place) = Some (checks (paths_in files) place)
 
 -- the arguments ask for what is given, if anything is

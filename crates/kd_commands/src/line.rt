@@ -212,6 +212,12 @@ const AROUND_SERVERS: &[Subcommand<'static>] = &[
         ],
     },
     Subcommand {
+        name: "test",
+        about: "Read the configuration, and explain what is wrong in it",
+        example: "Example: kdhcp test --config config.json",
+        arguments: &[CONFIG, KEA, SERVER_ADDRESS, TOKEN_DIR],
+    },
+    Subcommand {
         name: "check",
         about: "Try each step of a start, and explain what is wrong",
         example: "Example: kdhcp check --config config.json --store leases.db --bind 0.0.0.0",

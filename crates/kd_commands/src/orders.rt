@@ -61,6 +61,11 @@ pub enum Order {
         /// given.
         address: Option<u32>,
     },
+    /// A trial of the configuration alone.
+    Test {
+        /// The files to use.
+        files: Files,
+    },
     /// A trial of each step of a start, without serving.
     Check {
         /// The files to use.

@@ -8,7 +8,7 @@ ghost use Rattle.kd_commands.specs.Order.{IsVersionUnlessFull};
 ghost use Rattle.kd_commands.specs.Order.{answering_of, asked_by, asked_of, checking_of, compiles, evaluates};
 ghost use Rattle.kd_commands.specs.Order.{evaluation_of, filtering_of, flag_is_given, given_by, imports, listening_of};
 ghost use Rattle.kd_commands.specs.Order.{paths_bound, paths_in, paths_of, paths_with, pools_sight, replaying_of, serving_of, showing_of};
-ghost use Rattle.kd_commands.specs.Order.{sight_of, tests, types, verifies, view_with, viewing_of};
+ghost use Rattle.kd_commands.specs.Order.{sight_of, tests, tries, trying_of, types, verifies, view_with, viewing_of};
 ghost use Rattle.kd_commands.specs.Values.{address_of, event_line_of, hardware_of, host_address_of, number_of, port_of, read_if_given, read_or};
 ghost use Rattle.kd_commands.specs.Steps.{AnswersKind, GivesIfThere, GivesPaths, matched_texts};
 
@@ -82,6 +82,7 @@ fn order_named(alloc: Global, name: &str, inner: &ArgMatches<'_>) -> Result<Orde
         "why" => why_order(alloc, inner),
         "import" => import_order(alloc, inner),
         "events" => events_order(alloc, inner),
+        "test" => test_order(alloc, inner),
         "check" => check_order(alloc, inner),
         "serve" => serve_order(alloc, inner),
         _ => Err(LineFault::CommandLine),
@@ -313,6 +314,14 @@ fn events_order(alloc: Global, matches: &ArgMatches<'_>) -> Result<Order, LineFa
         return Err(LineFault::CommandLine);
     };
     Ok(Order::Events { mac, address })
+}
+
+// Returns what the matches of `test` ask for.
+fn test_order(alloc: Global, matches: &ArgMatches<'_>) -> Result<Order, LineFault>
+    ensures { GivesIfThere (trying_of (matched_texts matches.now)) result }
+{
+    let files = files_of(alloc, matches)?;
+    Ok(Order::Test { files })
 }
 
 // Returns what the matches of `check` ask for.

@@ -24,4 +24,5 @@ module _ {H N U L R : Type 0} (h : Hosts H N U L R) (named : Ghosts N) (unnamed 
   answered (orders.Over files work) before after status printed same says = absurd printed
   answered (orders.Import store) before after status printed same says = absurd printed
   answered (orders.Events mac address) before after status printed same says = absurd printed
+  answered (orders.Test files) before after status printed same says = absurd printed
   answered (orders.Check files place) before after status printed same says = absurd printed

@@ -11,7 +11,7 @@ use Rattle.kd_trouble.specs.Faults.{start_fault_number}
 use Rattle.kd_io.specs.declared.look.LookFault.{LookFault}
 use Rattle.kd_io.specs.declared.look.LookFault.TheVariants as looks
 use Rattle.kd_trouble.specs.declared.fault.StartFault.{StartFault}
-use Rattle.kd_program.specs.Report.{IsCheckReport}
+use Rattle.kd_program.specs.Report.{IsCheckReport, IsConfigReport}
 use Rattle.kd_program.specs.Streams.{At, ShowsOrBreaks, Starves}
 use Rattle.kd_commands.specs.declared.orders.Place.{Place}
 use Rattle.kd_program.specs.declared.checking.StoreFinding.{StoreFinding}
@@ -98,6 +98,16 @@ module _ {H N U L R : Type 0} (h : Hosts H N U L R) where
   FindsStore (Some path) limit before after found =
       (answer : Result Bool StoreTrouble) × h.tries before path answer
       × FindsDatabase path limit answer before after found
+
+  -- the configuration of these files is read, a report of it is shown, and the exit status is that of
+  -- its fault; memory may run out for the report
+  pub record TriesConfig (files : Files) (before after : At H) (status : ℕ) : Type 0 where
+    pub config : Result Configuration StartFault
+    pub given : h.configures before.host files config after.host
+    pub shown : ((report : List ℕ) × IsConfigReport h after.host files config report
+        × ShowsOrBreaks report (check_status (config_finding config ∷ [])) status
+        before.streams.output after.streams.output before.streams.faults after.streams.faults)
+        ⊎ Starves status before.streams after.streams
 
   -- the steps of a start are tried in order, a report of them is shown, and the exit status is that
   -- of the first fault; memory may run out for the report

@@ -123,6 +123,15 @@ module _ {H N U L R : Type 0} (h : Hosts H N U L R) where
   IsLeftOut host None count = count ≡ None
   IsLeftOut host (Some path) count = h.leaves_out host path count
 
+  -- a report of a configuration: what is said of the configuration of these files, as a terminal may
+  -- show it
+  pub record IsConfigReport (host : H) (files : Files) (config : Result Configuration StartFault)
+      (report : List ℕ) : Type 0 where
+    pub about_config : List ℕ
+    pub configured : IsAboutConfig h host files config about_config
+    pub shown : report ≡ shown_text about_config
+    pub plain : IsPlain report
+
   -- a report: what is said of the configuration of these files, the lines about the store, if there
   -- is a path, and those about the socket, as a terminal may show them
   pub record IsCheckReport (host : H) (files : Files) (config : Result Configuration StartFault)

@@ -35,7 +35,7 @@ use Rattle.kd_server.specs.Batch.{Batched}
 use Rattle.kd_server.specs.Server.{IsUnopened, ServerState, Opens, Refuses, Steps, latest_in}
 use Rattle.kd_log.specs.declared.events.filter.Filter.{Filter}
 use Rattle.kd_program.specs.Banner.{removed_line, serving_line}
-use Rattle.kd_program.specs.Checking.{ChecksStart}
+use Rattle.kd_program.specs.Checking.{ChecksStart, TriesConfig}
 use Rattle.kd_program.specs.Importing.{ImportsInto}
 use Rattle.kd_program.specs.Explaining.{ExplainsLine, standard_trial}
 use Rattle.kd_program.specs.Listing.{ShowsView}
@@ -370,6 +370,7 @@ module _ {H N U L R : Type 0} (h : Hosts H N U L R) (named : Ghosts N) (unnamed 
   CarriesOut (orders.Over files work) before after status = Starts files work before after status
   CarriesOut (orders.Import store) before after status =
       Imports (string_bytes store) before after status
+  CarriesOut (orders.Test files) before after status = TriesConfig h files before after status
   CarriesOut (orders.Check files place) before after status =
       ChecksStart h files place before after status
   CarriesOut (orders.Events mac address) before after status =

@@ -1,11 +1,11 @@
 ghost use Rattle.std.specs.Prelude.{◌≡◌, ◌∷◌, [], option_map, string_bytes};
-ghost use Rattle.kd_program.specs.Checking.{ChecksStart, FindsRows, FindsStore, check_status, config_finding, finding_number, socket_finding};
+ghost use Rattle.kd_program.specs.Checking.{ChecksStart, FindsRows, FindsStore, TriesConfig, check_status, config_finding, finding_number, socket_finding};
 ghost use Rattle.kd_program.specs.Streams.{at_ends};
 
 use crate::ends::StandardEnds;
 use crate::host::Host;
 use crate::printing::{refuse_memory, show};
-use crate::report::report_of;
+use crate::report::{config_report_of, report_of};
 use crate::serving::read_configuration;
 use kd_answers::exit_status;
 use kd_commands::{Files, Place};
@@ -50,6 +50,36 @@ pub(crate) struct Found<'a> {
     pub(crate) store: &'a StoreFinding,
     pub(crate) socket: Result<bool, SocketTrouble>,
     pub(crate) place: Place,
+}
+
+// Reads the configuration of these files. Prints in words what was found, and returns the exit status:
+// that of its fault, or 0 if it has none.
+pub(crate) fn try_config<H: Host, R: Source, O: Sink, E: Sink>(
+    alloc: Global,
+    host: &mut H,
+    ends: &mut StandardEnds<R, O, E>,
+    files: &Files,
+) -> u8
+    ensures { TriesConfig H.Host files.now
+        (at_ends R.Source O.Sink E.Sink host.old ends.old)
+        (at_ends R.Source O.Sink E.Sink host.new ends.new) result }
+{
+    let config = read_configuration(host, files);
+    let status = status_of_config(&config);
+    match config_report_of(alloc, host, files, &config) {
+        Ok(text) => show(&mut ends.output, &mut ends.faults, text.as_bytes(), status),
+        Err(_) => refuse_memory(&mut ends.faults),
+    }
+}
+
+// Returns the exit status of the fault of a configuration, or 0 if it has none.
+fn status_of_config(config: &Result<Config, StartFault>) -> u8
+    ensures { result ≡ check_status (config_finding config.now ∷ []) }
+{
+    match number_of_config(config) {
+        Some(number) => exit_status(number),
+        None => 0,
+    }
 }
 
 // Tries each step of a start, in order, without changing a file. Prints in words what was found,

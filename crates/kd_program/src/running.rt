@@ -1,10 +1,10 @@
 ghost use Rattle.std.specs.Prelude.{◌≡◌, false, map, option_map, string_bytes, vec_items};
 ghost use Rattle.kd_answers.specs.Printed.{IsPrinted};
-ghost use Rattle.kd_program.specs.Checking.{ChecksStart};
+ghost use Rattle.kd_program.specs.Checking.{ChecksStart, TriesConfig};
 ghost use Rattle.kd_program.specs.Running.{Carries, CarriesOut, Imports, Says, SaysEvents};
 ghost use Rattle.kd_program.specs.Streams.{at_ends, streams};
 
-use crate::checking::check;
+use crate::checking::{check, try_config};
 use crate::ends::StandardEnds;
 use crate::host::Host;
 use crate::importing::import;
@@ -54,6 +54,7 @@ fn carry_out<H: Host, R: Source, O: Sink, E: Sink>(
     match order {
         Order::Over { files, work } => start(alloc, host, ends, files, work),
         Order::Import { store } => import_into_store(alloc, host, ends, store),
+        Order::Test { files } => try_config_of(alloc, host, ends, files),
         Order::Check { files, place } => check_files(alloc, host, ends, files, place),
         Order::Events { mac, address } => print_events_of(alloc, ends, mac, address),
         Order::Version => {
@@ -79,6 +80,20 @@ fn import_into_store<H: Host, R: Source, O: Sink, E: Sink>(
         (at_ends R.Source O.Sink E.Sink host.new ends.new) result }
 {
     import(alloc, host, ends, store.as_str())
+}
+
+// Reads the configuration of files.
+fn try_config_of<H: Host, R: Source, O: Sink, E: Sink>(
+    alloc: Global,
+    host: &mut H,
+    ends: &mut StandardEnds<R, O, E>,
+    files: Files,
+) -> u8
+    ensures { TriesConfig H.Host files
+        (at_ends R.Source O.Sink E.Sink host.old ends.old)
+        (at_ends R.Source O.Sink E.Sink host.new ends.new) result }
+{
+    try_config(alloc, host, ends, &files)
 }
 
 // Tries each step of a start over files.
