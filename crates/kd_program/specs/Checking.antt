@@ -11,7 +11,7 @@ use Rattle.kd_trouble.specs.Faults.{start_fault_number}
 use Rattle.kd_io.specs.declared.look.LookFault.{LookFault}
 use Rattle.kd_io.specs.declared.look.LookFault.TheVariants as looks
 use Rattle.kd_trouble.specs.declared.fault.StartFault.{StartFault}
-use Rattle.kd_program.specs.Report.{IsCheckReport, IsConfigReport}
+use Rattle.kd_program.specs.Report.{IsCheckReport, IsTestReport}
 use Rattle.kd_program.specs.Streams.{At, ShowsOrBreaks, Starves}
 use Rattle.kd_commands.specs.declared.orders.Place.{Place}
 use Rattle.kd_program.specs.declared.checking.StoreFinding.{StoreFinding}
@@ -104,7 +104,7 @@ module _ {H N U L R : Type 0} (h : Hosts H N U L R) where
   pub record TriesConfig (files : Files) (before after : At H) (status : ℕ) : Type 0 where
     pub config : Result Configuration StartFault
     pub given : h.configures before.host files config after.host
-    pub shown : ((report : List ℕ) × IsConfigReport h after.host files config report
+    pub shown : ((report : List ℕ) × IsTestReport h after.host files config report
         × ShowsOrBreaks report (check_status (config_finding config ∷ [])) status
         before.streams.output after.streams.output before.streams.faults after.streams.faults)
         ⊎ Starves status before.streams after.streams

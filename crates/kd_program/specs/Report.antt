@@ -125,7 +125,7 @@ module _ {H N U L R : Type 0} (h : Hosts H N U L R) where
 
   -- a report of a configuration: what is said of the configuration of these files, as a terminal may
   -- show it
-  pub record IsConfigReport (host : H) (files : Files) (config : Result Configuration StartFault)
+  pub record IsTestReport (host : H) (files : Files) (config : Result Configuration StartFault)
       (report : List ℕ) : Type 0 where
     pub about_config : List ℕ
     pub configured : IsAboutConfig h host files config about_config

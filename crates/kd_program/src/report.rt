@@ -1,6 +1,6 @@
 ghost use Rattle.std.specs.Prelude.{◌≡◌, ◌++◌, ℕ, Bool, IfOk, List, Ok, OnOk, codes, decimal, option_map, string_bytes};
 ghost use Rattle.kd_program.specs.Advice.{AreRemarks, IsAboutConfig, IsAboutContent, name_of, size_line, size_text};
-ghost use Rattle.kd_program.specs.Report.{IsPlain, IsCheckReport, IsConfigReport, IsLeftOut, ahead_text, behind_text, damaged_line, finding_text, log_line, seen_rows_text, seen_text, plain_byte, shown_text, socket_lines, socket_text, store_line, store_lines, unread_reason, unused_line};
+ghost use Rattle.kd_program.specs.Report.{IsPlain, IsCheckReport, IsTestReport, IsLeftOut, ahead_text, behind_text, damaged_line, finding_text, log_line, seen_rows_text, seen_text, plain_byte, shown_text, socket_lines, socket_text, store_line, store_lines, unread_reason, unused_line};
 
 use crate::advice::put_advice;
 use crate::banner::{pool_addresses, put_place};
@@ -40,7 +40,7 @@ pub(crate) fn config_report_of<H: Host>(
     files: &Files,
     config: &Result<Config, StartFault>,
 ) -> Result<String, AllocError>
-    ensures { IfOk result (λ text. IsConfigReport H.Host host.now files.now config.now
+    ensures { IfOk result (λ text. IsTestReport H.Host host.now files.now config.now
         (string_bytes text)) }
 {
     let mut text = String::new(alloc);
