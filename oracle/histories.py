@@ -150,6 +150,8 @@ class Client:
         self.vendor = chance.choice([None, None] + VENDORS)
         self.relay = None
         self.circuit = b""
+        # the identifier of the server that its relay sets, and sub-option 11 with it or with a value of another length; or none
+        self.server, self.override = None, b""
 
     def identity(self, root):
         kind_and_address = bytes([0, self.htype]) + self.hardware.ljust(16, b"\0")[: min(self.hlen, 16)]
@@ -196,6 +198,23 @@ def some_relay(chance, root):
     return min(last, first + chance.choice([0, 1, 9, 255])).to_bytes(4, "big")
 
 
+def some_override(chance, root, client):
+    """An identifier of the server that a relay may set, mostly its own address, and the sub-option with it; sometimes of another
+    length, twice, or left out."""
+    others = [address(each) for each in (root["server-address"], "192.0.2.99", "10.0.0.9", "0.0.0.0", "255.255.255.255")]
+    identifier = chance.choice([client.relay] * 5 + others)
+    value = chance.choice([identifier] * 6 + [identifier[:3], identifier + b"\0", b""])
+    set_once = written(11, value)
+    return identifier, chance.choice([set_once] * 6 + [set_once + written(11, chance.choice(others)), b""])
+
+
+def some_server(chance, root, client):
+    """The value of option 54: mostly this server's address or the identifier that a relay sets, sometimes another server's."""
+    own = address(root["server-address"])
+    servers = [own] * 5 + [address("192.0.2.99")] + [own if client.server is None else client.server] * 4
+    return chance.choice(servers)
+
+
 def some_moment(chance, rows, now):
     """Mostly a little later; often the end of a row or a second before or after it; sometimes earlier; rarely the last time."""
     place = chance.random()
@@ -214,8 +233,7 @@ def message_options(chance, root, rows, client, kind):
     if chance.random() < (0.9 if kind in (judge.REQUEST, judge.DECLINE) else 0.3):
         pairs.append((50, some_address(chance, root, rows, client)))
     if chance.random() < 0.5 and kind in (judge.REQUEST, judge.DECLINE, judge.RELEASE) or chance.random() < 0.05:
-        servers = [address(root["server-address"])] * 5 + [address("192.0.2.99")]
-        pairs.append((54, chance.choice(servers)))
+        pairs.append((54, some_server(chance, root, client)))
     if chance.random() < 0.35:
         pairs.append((55, bytes(chance.choices(CODES + [51, 54, 82], k=chance.randrange(6)))))
     if chance.random() < 0.3:
@@ -227,12 +245,13 @@ def message_options(chance, root, rows, client, kind):
         pairs.append((61, client.identifier))
     if chance.random() < 0.25:
         sizes = [0, 1, 5, 40, 260, 276, 277, 294, 295, 600]
-        pairs.append((82, chance.choice([b"\x01\x01x", b"\x01\x00", chance.randbytes(chance.choice(sizes))])))
+        overrides = written(11, address("192.0.2.99"))
+        pairs.append((82, chance.choice([b"\x01\x01x", b"\x01\x00", overrides, chance.randbytes(chance.choice(sizes))])))
     if judge.is_kea(root) and chance.random() < (0.8 if any(client.relay) else 0.5):
         link = some_address(chance, root, rows, client)
         link = written(5, chance.choice([link, link, link, link[:3], link + b"\0"]))
         pairs = [pair for pair in pairs if pair[0] != 82]
-        pairs.append((82, client.circuit + chance.choice([b"", b"", link])))
+        pairs.append((82, client.circuit + chance.choice([b"", b"", link]) + chance.choice([b"", client.override, client.override])))
     if judge.is_kea(root) and chance.random() < 0.3:
         pairs.append((51, some_wish(chance, root)))
     return pairs
@@ -272,6 +291,8 @@ def datagram(chance, root, rows, clients):
         client.vendor = chance.choice([None, *VENDORS])
     if judge.is_kea(root) and chance.random() < 0.4:
         client.circuit = chance.choice([b"", b"\x01\x01x", b"\x01\x01x", b"\x01\x02xy"])
+    if judge.is_kea(root) and chance.random() < 0.3:
+        client.server, client.override = some_override(chance, root, client)
     pairs = [(53, bytes([kind]))] + message_options(chance, root, rows, client, kind)
     says_address = chance.random() < {judge.DISCOVER: 0.05, judge.REQUEST: 0.25}.get(kind, 0.85)
     ciaddr = some_address(chance, root, rows, client) if says_address else bytes(4)
@@ -283,7 +304,7 @@ def datagram(chance, root, rows, clients):
         left_out = chance.choice([(54,), (54, 82), (54, 82), (54, 60, 82)])
         pairs = [pair for pair in pairs if pair[0] not in left_out]
     elif judge.is_kea(root) and kind == judge.REQUEST and reserved and place > 0.6:
-        chosen = [(50, chance.choice(reserved).to_bytes(4, "big")), (54, address(root["server-address"]))]
+        chosen = [(50, chance.choice(reserved).to_bytes(4, "big")), (54, some_server(chance, root, client))]
         pairs = [pair for pair in pairs if pair[0] not in (50, 54)] + chosen
     op = chance.choices([1, 2, 3], [97, 2, 1])[0]
     flags = chance.choice([bytes(2), bytes(2), b"\x80\x00", b"\x7f\xff", b"\x81\x23"])
@@ -295,12 +316,12 @@ def datagram(chance, root, rows, clients):
     return whole[: chance.randrange(len(whole))] if chance.random() < 0.01 else whole
 
 
-def taken_offer(root, message, line):
+def taken_offer(message, line):
     """The REQUEST by which a client takes what this line offers to its DISCOVER, or None if it offers nothing."""
     reply = bytes.fromhex(line.split(" ")[-1]) if " reply " in line else b""
     if reply[240:243] != b"\x35\x01\x02":
         return None
-    found = {**judge.readable(message), 50: reply[16:20], 53: b"\x03", 54: address(root["server-address"])}
+    found = {**judge.readable(message), 50: reply[16:20], 53: b"\x03", 54: reply[245:249]}
     return message[:44] + bytes(192) + COOKIE + b"".join(written(*pair) for pair in found.items()) + b"\xff"
 
 
@@ -323,7 +344,7 @@ def history(chance, configuration=configuration):
         if moment >= judge.END_OF_TIME:
             break
         line, rows = judge.handle(root, rows, moment, message)
-        chosen = taken_offer(root, message, line) if judge.is_kea(root) and chance.random() < 0.6 else None
+        chosen = taken_offer(message, line) if judge.is_kea(root) and chance.random() < 0.6 else None
         now = judge.moment_of(rows, now if chance.random() < 0.5 else moment)
     return root, events, judge.replay(root, events)
 

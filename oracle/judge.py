@@ -5,7 +5,7 @@
 
 For each event it prints the line that `kdhcp replay` must print. With `--leases M` it then prints the table of leases at the
 time M. The table is a plain list, and each lookup goes through all of it. The rules are implemented here a second time, from
-RFC 2131, 2132, 3046, 3396, 3527, 6842 and the project's own rules. The program was written separately from the server, in another
+RFC 2131, 2132, 3046, 3396, 3527, 5107, 6842 and the project's own rules. The program was written separately from the server, in another
 language, and uses none of the server's code. With networks, even if there are none (`shared-networks`), the rules are those of a
 configuration of Kea's, which also gives values to the fields siaddr, sname and file, and lifetimes by class, subnet and network.
 
@@ -133,8 +133,16 @@ def server_address(root):
     return number(address(root["server-address"]))
 
 
+def set_identifier(asked):
+    """The server identifier that a relay sets by sub-option 11 of its information (RFC 5107), or None."""
+    identifier = relay_options(asked.found).get(11, b"")
+    return number(identifier) if is_kea(asked.root) and giaddr(asked) and len(identifier) == 4 else None
+
+
 def names_another_server(asked):
-    return 54 in asked.found and number(asked.found[54]) != server_address(asked.root)
+    """Whether a message names a server by neither this one's address nor the identifier that the relay of the message sets."""
+    names = (server_address(asked.root), set_identifier(asked))
+    return 54 in asked.found and number(asked.found[54]) not in names
 
 
 def subnets_of(root):

@@ -7,8 +7,9 @@ The configurations are those of histories.py, with most of their subnets in shar
 options and relays. In most files networks, subnets and pools have classes, of which a client may need one, two or three, and
 some clients have a reservation in several subnets of a network. Clients come through these relays too, and change what puts them
 into a class. The whole server, networks, subnets, classes and reservations give values to boot fields, some of them empty. Some
-relays select a link, and some clients renew without the relay that says their class or their circuit. Some servers are
-authoritative, and some ignore client identifiers. Some reservations are by circuit or by DUID, have no address, or have options.
+relays select a link, and some set the identifier by which their clients name the server. Some clients renew without the relay
+that says their class or their circuit. Some servers are authoritative, and some ignore client identifiers. Some reservations are
+by circuit or by DUID, have no address, or have options.
 In half of the files the whole server, networks, subnets and classes give lifetimes, and all but classes times of renewal or shares
 for them. Some clients ask for a lifetime.
 """

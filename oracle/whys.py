@@ -2,9 +2,9 @@
 """Explains each event of random histories: whys.py SEED COUNT [--networks] [--program P] [--jobs N]
 
 The histories are those of histories.py, or with --networks those of networks.py. For each event, the explanation of
-`kdhcp replay --why` must end with the line of judge.py, and say why subnets are passed over and whether the address fits as the
-judge's rules do. For the last event, `kdhcp why` with a store after the events before it must print the same explanation, and
-leave the store's leases unchanged.
+`kdhcp replay --why` must end with the line of judge.py, and say why subnets are passed over, whether this server is named and
+whether the address fits as the judge's rules do. For the last event, `kdhcp why` with a store after the events before it must
+print the same explanation, and leave the store's leases unchanged.
 """
 import argparse
 import json
@@ -69,14 +69,23 @@ def fits_line(asked):
     return f"check fits: {'yes' if is_fit else 'no'}, {where}, {reserved_words(asked, wanted)}{end}"
 
 
+def server_line(asked):
+    """The line that says whether a message names this server."""
+    if 54 not in asked.found:
+        return "check server: none is named"
+    return f"check server: {judge.dotted(asked.found[54])} is {'another' if judge.names_another_server(asked) else 'this'} one"
+
+
 def is_explained(root, rows, event, lines):
-    """Whether the lines about passed over subnets and the one about the address are those of the rules."""
+    """Whether the lines about passed over subnets, the server and the address are those of the rules."""
     asked = judge.asked_of(root, rows, *event)
     if not isinstance(asked, judge.Asked):
         return True
     over = [line.split(" passed over: ")[1] for line in lines if " passed over: " in line]
     fits = [line for line in lines if line.startswith("check fits: ")]
-    return over == ([] if asked.keeps else [*passed_over(asked)]) and all(line == fits_line(asked) for line in fits)
+    servers = [line for line in lines if line.startswith("check server: ")]
+    is_so = all(line == fits_line(asked) for line in fits) and all(line == server_line(asked) for line in servers)
+    return over == ([] if asked.keeps else [*passed_over(asked)]) and is_so
 
 
 def explained(program, files, events, number):
