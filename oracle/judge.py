@@ -139,6 +139,12 @@ def set_identifier(asked):
     return number(identifier) if is_kea(asked.root) and giaddr(asked) and len(identifier) == 4 else None
 
 
+def server_identifier(asked):
+    """The server identifier of a reply: the one that a relay sets, or else the address of the server."""
+    identifier = set_identifier(asked)
+    return server_address(asked.root) if identifier is None else identifier
+
+
 def names_another_server(asked):
     """Whether a message names a server by neither this one's address nor the identifier that the relay of the message sets."""
     names = (server_address(asked.root), set_identifier(asked))
@@ -638,7 +644,7 @@ def options_of(asked, plan):
     """The options field of a reply up to its end, or None if the required options do not fit."""
     found = asked.found
     kind = {"OFFER": b"\x02", "ACK": b"\x05", "INFORMED": b"\x05", "NAK": b"\x06"}[plan.kind]
-    front = written(53, kind) + written(54, address(asked.root["server-address"]))
+    front = written(53, kind) + written(54, server_identifier(asked).to_bytes(4, "big"))
     if plan.kind in ("OFFER", "ACK"):
         front += times(asked, plan.yiaddr)
     if 61 in found:
