@@ -15,7 +15,7 @@ NO_FILE = "there is no such file"
 # No session takes longer, in seconds.
 LONGEST = 120
 # The commands that have a socket or a clock, which the library of cases-host.c then gives them.
-ON_A_HOST = ("serve", "check")
+ON_A_HOST = ("serve", "check", "test")
 # The longest argument that Linux hands to a program. A longer one is put into a file, which that library reads.
 LONGEST_WORD = 131_071
 # The bytes of a database that a server locks.
