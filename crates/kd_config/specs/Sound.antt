@@ -19,7 +19,6 @@ use Rattle.kd_config.specs.declared.reservation.Identity.{Identity}
 use Rattle.kd_config.specs.declared.reservation.Identity.TheVariants as clients
 use Rattle.kd_config.specs.declared.reservation.Reservation.{Reservation}
 use Rattle.kd_config.specs.declared.subnet.Subnet.{Subnet}
-use Rattle.kd_config.specs.declared.term.Term.{Term}
 use Rattle.kd_config.specs.declared.times.Times.{Times}
 use Rattle.kd_options.specs.Laws.{IsField}
 

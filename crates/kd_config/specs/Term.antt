@@ -1,6 +1,6 @@
 -- When a client renews its lease and rebinds it, T1 and T2 (RFC 2131 section 4.4.5), by its lifetime
 -- (Kea Administrator Reference Manual, section Sending T1 and T2).
-use Rattle.std.specs.Prelude.{ℕ, ◌*◌, ◌/◌, Bool, ◌&&◌, nat_lt, max, min, pos, Float, List, Option, Some, None, is_some, unwrap_or, if◌then◌else◌}
+use Rattle.std.specs.Prelude.{ℕ, ◌*◌, ◌/◌, Bool, ◌&&◌, nat_lt, max, min, pos, Float, Option, Some, None, is_some, unwrap_or, if◌then◌else◌}
 use Rattle.std.specs.Float.{binary64, float_round, float_to_unsigned}
 use Rattle.std.specs.Float.Ieee.{mul, of_int}
 use Rattle.std.specs.Int.{w32}

@@ -1,4 +1,4 @@
-use Rattle.std.proofs.Common.{◌≡◌, ◌∙◌, ap, Some, if◌then◌else◌}
+use Rattle.std.proofs.Common.{◌∙◌, ap, Some, if◌then◌else◌}
 use Rattle.std.specs.Map.{lookup}
 use Rattle.std.specs.Str.{bytes_eq}
 use Rattle.kd_config.proofs.Chains.{stored}

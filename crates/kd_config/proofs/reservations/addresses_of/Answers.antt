@@ -4,7 +4,7 @@ use Rattle.std.specs.List.{position_from}
 use Rattle.std.specs.Option.{option_or}
 use Rattle.std.proofs.lemmas.List.{length-take-le, take_more}
 use Rattle.indexmap.specs.IndexMap.{get_by}
-use Rattle.kd_config.specs.Reservation.{has_reserved, same_address}
+use Rattle.kd_config.specs.Reservation.{has_reserved}
 use Rattle.kd_config.proofs.ClientPlaces.{first_more}
 use Rattle.kd_config.proofs.reservations.addresses_of.Goals as goal
 

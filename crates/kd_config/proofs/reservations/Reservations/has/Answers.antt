@@ -1,6 +1,5 @@
-use Rattle.std.proofs.Common.{◌≡◌, ◌∙◌, ap, sym, nat_eq, is_some, option_copied}
+use Rattle.std.proofs.Common.{◌∙◌, ap, sym, is_some}
 use Rattle.std.specs.List.{list_any}
-use Rattle.indexmap.specs.IndexMap.{get_by}
 use Rattle.kd_config.specs.Reservation.{has_reserved}
 use Rattle.kd_config.proofs.ClientPlaces.{any_at, copied_some}
 use Rattle.kd_config.proofs.reservations.Reservations.has.Goals as goal

@@ -1,4 +1,4 @@
-use Rattle.std.proofs.Common.{◌≡◌, ◌-◌, ◌∙◌, ap, sym, nat_eq, Some, None, slice_get, arith}
+use Rattle.std.proofs.Common.{◌≡◌, ◌-◌, ◌∙◌, ap, sym, Some, None, slice_get, arith}
 use Rattle.std.specs.List.{find, position_from}
 use Rattle.kd_config.specs.Reservation.{has_reserved}
 use Rattle.kd_config.proofs.ClientPlaces.{at_place, first_at}

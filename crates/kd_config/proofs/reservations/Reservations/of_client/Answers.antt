@@ -1,4 +1,4 @@
-use Rattle.std.proofs.Common.{◌≡◌, ℕ, List, Option, ◌-◌, ◌∙◌, ap, sym, Some, None, option_copied, slice_get, arith}
+use Rattle.std.proofs.Common.{◌≡◌, ◌-◌, ◌∙◌, ap, sym, Some, None, option_copied, slice_get, arith}
 use Rattle.std.specs.List.{find}
 use Rattle.kd_config.specs.Places.{place_by}
 use Rattle.kd_config.specs.Reservation.{earlier, found_if, identified_by}
