@@ -12,10 +12,10 @@ use Rattle.kd_config.specs.declared.reservation.IdentityKind.{IdentityKind}
 use Rattle.kd_config.specs.declared.reservation.IdentityKind.TheVariants as kinds
 use Rattle.kd_json.proofs.Came.{came_from, passed, passed_only}
 use Rattle.kd_json.proofs.Sounds.{bytes_sound}
-use Rattle.kd_kea.specs.HostClient.{host_bytes, client_if_given, kea_client, most_bytes, one_client}
-use Rattle.kd_kea.specs.HostKinds.{kind_key}
-use Rattle.kd_kea.specs.Quoted.{bytes_in_quotes, bytes_written, quoted_or_hex}
-use Rattle.kd_kea.specs.Values.{is_whole_text}
+use Rattle.kd_keys.specs.HostClient.{host_bytes, client_if_given, kea_client, most_bytes, one_client}
+use Rattle.kd_keys.specs.HostKinds.{kind_key}
+use Rattle.kd_keys.specs.Quoted.{bytes_in_quotes, bytes_written, quoted_or_hex}
+use Rattle.kd_keys.specs.Values.{is_whole_text}
 
 few_written : (most : ℕ) (quoted : Option (List ℕ)) (d : Data) (bytes : List ℕ) → quoted_or_hex most quoted d ≡ Some bytes → length bytes ≤ most
 few_written most (Some read) d bytes e =

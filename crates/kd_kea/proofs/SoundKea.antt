@@ -17,35 +17,35 @@ use Rattle.kd_kea.proofs.SoundBoot.{boot_sound, own_sound}
 use Rattle.kd_kea.proofs.SoundLifetimes.{class_lifetime_sound, keys_sound, usual_keys_sound}
 use Rattle.kd_kea.proofs.SoundNetworks.{subnets_sound}
 use Rattle.kd_kea.proofs.Sounds.{all_sound, options_sound, server_sound, times_sound}
-use Rattle.kd_kea.specs.Boot.{kea_boot, own_boot}
+use Rattle.kd_keys.specs.Boot.{kea_boot, own_boot}
 use Rattle.kd_kea.specs.Class.{kea_class_options, kea_class}
-use Rattle.kd_kea.specs.Definitions.{kea_definitions, kea_known}
-use Rattle.kd_kea.specs.HostKinds.{kinds_given}
-use Rattle.kd_kea.specs.HostName.{server_has_bare_names}
+use Rattle.kd_keys.specs.Definitions.{kea_definitions, kea_known}
+use Rattle.kd_keys.specs.HostKinds.{kinds_given}
+use Rattle.kd_keys.specs.HostName.{server_has_bare_names}
 use Rattle.kd_kea.specs.Kea.{kea_settings}
-use Rattle.kd_kea.specs.Keys.{keys_are_read}
+use Rattle.kd_keys.specs.Keys.{keys_are_read}
 use Rattle.kd_kea.specs.Lifetimes.{own_lifetime, has_class_lifetime, kea_keys, usual_keys}
 use Rattle.kd_kea.specs.Network.{kea_subnets}
-use Rattle.kd_kea.specs.Options.{kea_options, server_address}
-use Rattle.kd_kea.specs.Plain.{plain}
-use Rattle.kd_kea.specs.Policy.{kea_policy}
+use Rattle.kd_keys.specs.Options.{kea_options, server_address}
+use Rattle.kd_plain.specs.Plain.{plain}
+use Rattle.kd_keys.specs.Policy.{kea_policy}
 use Rattle.kd_kea.specs.Settings.{has_server_form, kea_dhcp4, kea_root, kea_settings_with}
-use Rattle.kd_kea.specs.Tables.{class_keys, root_keys}
+use Rattle.kd_keys.specs.Tables.{class_keys, root_keys}
 use Rattle.kd_kea.specs.Times.{kea_times}
-use Rattle.kd_kea.specs.Values.{flag_given}
-use Rattle.kd_kea.specs.declared.objects.definition.Definition.{Definition}
+use Rattle.kd_keys.specs.Values.{flag_given}
+use Rattle.kd_keys.specs.declared.definition.DefinedOption.{DefinedOption}
 use Rattle.kd_kea.specs.declared.objects.subnet.Above.{Above}
 use Rattle.kd_wire.specs.Steps.{◌>>=◌}
 use Rattle.serde_json.specs.Data.{Data}
 use Rattle.serde_json.specs.Find.{get}
 
-class_options_sound : (known : List Definition) (d : Data) (options : List OptionData) → kea_class_options known d ≡ Some options → AreOptions options
+class_options_sound : (known : List DefinedOption) (d : Data) (options : List OptionData) → kea_class_options known d ≡ Some options → AreOptions options
 unfolding kea_class_options
 class_options_sound known d options e =
     let own = came_from (kea_definitions true (get (codes "option-def") d)) _ options e in
     options_sound (own.first ++ known) (get (codes "option-data") d) options own.gives
 
-entry_sound : (known : List Definition) (d : Data) (entry : ClassEntry) → kea_class known d ≡ Some entry → IsEntry entry
+entry_sound : (known : List DefinedOption) (d : Data) (entry : ClassEntry) → kea_class known d ≡ Some entry → IsEntry entry
 unfolding kea_class
 entry_sound known d entry e =
     let keys = passed (keys_are_read class_keys d) _ entry e in

@@ -10,7 +10,7 @@ use Rattle.kd_json.proofs.Sounds.{number_or_sound}
 use Rattle.kd_json.specs.Values.{number_if_given, number_within}
 use Rattle.kd_kea.specs.Lifetimes.{own_lifetime, go_together, has_times_alone, is_in_bounds, kea_keys, keys_given, lifetime_between, lifetime_by, lifetime_of, seconds_or_above, term_of, term_unless_alike, timers_rise, usual_keys}
 use Rattle.kd_kea.specs.Times.{has_usual_shares}
-use Rattle.kd_kea.specs.Values.{flag_or}
+use Rattle.kd_keys.specs.Values.{flag_or}
 use Rattle.kd_kea.specs.declared.objects.lifetimes.TermKeys.{TermKeys}
 use Rattle.kd_kea.specs.declared.objects.subnet.Above.{Above}
 use Rattle.serde_json.specs.Data.{Data}

@@ -12,10 +12,10 @@ use Rattle.kd_config.specs.Sound.{AreOptions, HaveOwnCodes, IsOption}
 use Rattle.kd_json.proofs.Came.{came_from, passed, passed_only}
 use Rattle.kd_json.specs.Values.{text_if_given}
 use Rattle.kd_kea.proofs.Sounds.{options_sound}
-use Rattle.kd_kea.specs.HostName.{host_name, host_options, is_host_name, may_be_named, name_by, name_code, sent_name, with_host_name, without_dot}
-use Rattle.kd_kea.specs.Options.{kea_options}
-use Rattle.kd_kea.specs.Values.{unless_empty}
-use Rattle.kd_kea.specs.declared.objects.definition.Definition.{Definition}
+use Rattle.kd_keys.specs.HostName.{host_name, host_options, is_host_name, may_be_named, name_by, name_code, sent_name, with_host_name, without_dot}
+use Rattle.kd_keys.specs.Options.{kea_options}
+use Rattle.kd_keys.specs.Values.{unless_empty}
+use Rattle.kd_keys.specs.declared.definition.DefinedOption.{DefinedOption}
 use Rattle.serde_json.specs.Data.{Data}
 use Rattle.serde_json.specs.Find.{get}
 
@@ -103,7 +103,7 @@ named_sound (Some name) options fits h few = record {
   own = (unnamed_free options, unnamed_own options h.own);
 }
 
-pub host_options_sound : (known : List Definition) (bare : Bool) (d : Data) (options : List OptionData) → host_options known bare d ≡ Some options → AreOptions options
+pub host_options_sound : (known : List DefinedOption) (bare : Bool) (d : Data) (options : List OptionData) → host_options known bare d ≡ Some options → AreOptions options
 unfolding host_options
 host_options_sound known bare d options e =
     let name = came_from (host_name (get (codes "hostname") d)) _ options e in

@@ -14,10 +14,10 @@ use Rattle.kd_kea.proofs.SoundParts.{each_of_both}
 use Rattle.kd_kea.proofs.SoundSubnets.{IsAbove, relays_few, subnet_sound, within_sound}
 use Rattle.kd_kea.proofs.Sounds.{options_sound}
 use Rattle.kd_kea.specs.Network.{as_member, has_network_form, is_in_one_of, is_interface_of, kea_common, kea_member, kea_network, kea_subnets, numbered, relays_or, with_network}
-use Rattle.kd_kea.specs.Options.{kea_options}
-use Rattle.kd_kea.specs.Relay.{relays_of}
+use Rattle.kd_keys.specs.Options.{kea_options}
+use Rattle.kd_keys.specs.Relay.{relays_of}
 use Rattle.kd_kea.specs.Subnet.{above_within, kea_subnet}
-use Rattle.kd_kea.specs.declared.objects.definition.Definition.{Definition}
+use Rattle.kd_keys.specs.declared.definition.DefinedOption.{DefinedOption}
 use Rattle.kd_kea.specs.declared.objects.network.Common.{Common}
 use Rattle.kd_kea.specs.declared.objects.subnet.Above.{Above}
 
@@ -26,7 +26,7 @@ record IsCommon (common : Common) : Type 0 where
   relays : length common.relays ≤ 64
   options : AreOptions common.options
 
-common_sound : (known : List Definition) (d : Data) (common : Common) → kea_common known d ≡ Some common → IsCommon common
+common_sound : (known : List DefinedOption) (d : Data) (common : Common) → kea_common known d ≡ Some common → IsCommon common
 unfolding kea_common
 common_sound known d common e =
     let relays = came_from (relays_of (get (codes "relay") d)) _ common e in
@@ -57,13 +57,13 @@ as_member_sound common subnet shared sound =
       term = sound.term;
     }
 
-member_sound : (above : Above) → IsAbove above → (known : List Definition) (common : Common) → IsCommon common → (d : Data) (member : Subnet) → kea_member above known common d ≡ Some member → IsSubnet member
+member_sound : (above : Above) → IsAbove above → (known : List DefinedOption) (common : Common) → IsCommon common → (d : Data) (member : Subnet) → kea_member above known common d ≡ Some member → IsSubnet member
 unfolding kea_member
 member_sound above given known common shared d member e =
     let subnet = came_from (kea_subnet above known d) _ member e in
     subst IsSubnet (some_is (as_member common subnet.first) member subnet.gives) (as_member_sound common subnet.first shared (subnet_sound above given known d subnet.first subnet.is))
 
-network_sound : (above : Above) → IsAbove above → (known : List Definition) (d : Data) (members : List Subnet) → kea_network above known d ≡ Some members → AllByRecursion IsSubnet members
+network_sound : (above : Above) → IsAbove above → (known : List DefinedOption) (d : Data) (members : List Subnet) → kea_network above known d ≡ Some members → AllByRecursion IsSubnet members
 unfolding kea_network
 network_sound above given known d members e =
     let form = came_from (has_network_form above d) _ members e in
@@ -105,7 +105,7 @@ numbered_sound number (members ∷ networks) sound =
     (with_networks_sound number members sound.0) (numbered_sound (number + 1) networks sound.1)
 
 -- the subnets of the whole server are subnets of a configuration, and at most 256
-pub subnets_sound : (above : Above) → IsAbove above → (known : List Definition) (d : Data) (subnets : List Subnet) → kea_subnets above known d ≡ Some subnets → (length subnets ≤ 256) × AllByRecursion IsSubnet subnets
+pub subnets_sound : (above : Above) → IsAbove above → (known : List DefinedOption) (d : Data) (subnets : List Subnet) → kea_subnets above known d ≡ Some subnets → (length subnets ≤ 256) × AllByRecursion IsSubnet subnets
 unfolding kea_subnets
 subnets_sound above given known d subnets e =
     let networks = came_from (list_of 256 (kea_network above known) (get (codes "shared-networks") d)) _ subnets e in

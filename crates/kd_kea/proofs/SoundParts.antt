@@ -7,7 +7,7 @@ use borrow.Author.Tests.{leb-true, ltb-true}
 use Rattle.kd_config.specs.Sound.{AreOptions, IsPool, IsRange}
 use Rattle.kd_config.specs.declared.pool.Pool.{Pool}
 use Rattle.kd_json.proofs.Came.{passed_only}
-use Rattle.kd_kea.specs.Parts.{first_part, first_parts, pool_part, part_count, parts_of, parts_of_all}
+use Rattle.kd_keys.specs.Parts.{first_part, first_parts, pool_part, part_count, parts_of, parts_of_all}
 
 -- a pool of any number of addresses
 pub record IsWide (pool : Pool) : Type 0 where

@@ -19,22 +19,22 @@ use Rattle.kd_kea.proofs.SoundLifetimes.{AreTermKeys, keys_sound, term_sound}
 use Rattle.kd_kea.proofs.SoundNames.{host_options_sound}
 use Rattle.kd_kea.proofs.SoundParts.{IsWide, parts_sound}
 use Rattle.kd_kea.proofs.Sounds.{options_sound}
-use Rattle.kd_kea.specs.Boot.{kea_boot, own_boot}
-use Rattle.kd_kea.specs.HostClient.{kea_client}
-use Rattle.kd_kea.specs.HostKinds.{are_all_found}
-use Rattle.kd_kea.specs.HostName.{host_options}
-use Rattle.kd_kea.specs.Keys.{keys_are_read}
+use Rattle.kd_keys.specs.Boot.{kea_boot, own_boot}
+use Rattle.kd_keys.specs.HostClient.{kea_client}
+use Rattle.kd_keys.specs.HostKinds.{are_all_found}
+use Rattle.kd_keys.specs.HostName.{host_options}
+use Rattle.kd_keys.specs.Keys.{keys_are_read}
 use Rattle.kd_kea.specs.Lifetimes.{kea_keys}
-use Rattle.kd_kea.specs.Options.{kea_options}
-use Rattle.kd_kea.specs.Parts.{parts_of_all}
+use Rattle.kd_keys.specs.Options.{kea_options}
+use Rattle.kd_keys.specs.Parts.{parts_of_all}
 use Rattle.kd_kea.specs.Pool.{kea_pool, kea_range, may_require}
-use Rattle.kd_kea.specs.Relay.{kea_relay, relays_by, relays_of}
+use Rattle.kd_keys.specs.Relay.{kea_relay, relays_by, relays_of}
 use Rattle.kd_kea.specs.Reservation.{address_if_given, kea_reservation}
 use Rattle.kd_kea.specs.Subnet.{above_within, stand_beside, has_subnet_form, is_at_server, kea_subnet, kea_subnet_with}
-use Rattle.kd_kea.specs.Tables.{host_keys, pool_keys, relay_keys}
-use Rattle.kd_kea.specs.Values.{flag_or}
-use Rattle.kd_kea.specs.declared.objects.definition.Definition.{Definition}
-use Rattle.kd_kea.specs.declared.objects.host_kinds.HostKinds.{HostKinds}
+use Rattle.kd_keys.specs.Tables.{host_keys, pool_keys, relay_keys}
+use Rattle.kd_keys.specs.Values.{flag_or}
+use Rattle.kd_keys.specs.declared.definition.DefinedOption.{DefinedOption}
+use Rattle.kd_keys.specs.declared.host_kinds.HostKinds.{HostKinds}
 use Rattle.kd_kea.specs.declared.objects.subnet.Above.{Above}
 use Rattle.kd_wire.specs.Steps.{◌>>=◌}
 use Rattle.serde_json.specs.Data.{Data}
@@ -47,7 +47,7 @@ range_rises d range e =
     let few = passed_only (nat_lt (found.first.last - found.first.first) 4194304) found.first range found.gives in
     subst (λ (r : Range). r.first ≤ r.last) few.1 (addresses_in_rise d found.first found.is)
 
-pool_sound : (known : List Definition) (d : Data) (pool : Pool) → kea_pool known d ≡ Some pool → IsWide pool
+pool_sound : (known : List DefinedOption) (d : Data) (pool : Pool) → kea_pool known d ≡ Some pool → IsWide pool
 unfolding kea_pool
 pool_sound known d pool e =
     let keys = passed (keys_are_read pool_keys d) _ pool e in
@@ -61,7 +61,7 @@ pool_sound known d pool e =
       options = options_sound known (get (codes "option-data") d) options.first options.is;
     })
 
-reservation_sound : (known : List Definition) (kinds : HostKinds) (bare : Bool) (d : Data) (reservation : Reservation) → kea_reservation known kinds bare d ≡ Some reservation → IsReservation reservation
+reservation_sound : (known : List DefinedOption) (kinds : HostKinds) (bare : Bool) (d : Data) (reservation : Reservation) → kea_reservation known kinds bare d ≡ Some reservation → IsReservation reservation
 unfolding kea_reservation
 reservation_sound known kinds bare d reservation e =
     let keys = passed (keys_are_read host_keys d) _ reservation e in
@@ -108,7 +108,7 @@ within_sound above sound d within e =
       keys = keys_sound above.keys sound.keys d keys.first keys.is;
     })
 
-pub subnet_sound : (above : Above) → IsAbove above → (known : List Definition) (d : Data) (subnet : Subnet) → kea_subnet above known d ≡ Some subnet → IsSubnet subnet
+pub subnet_sound : (above : Above) → IsAbove above → (known : List DefinedOption) (d : Data) (subnet : Subnet) → kea_subnet above known d ≡ Some subnet → IsSubnet subnet
 unfolding kea_subnet kea_subnet_with
 subnet_sound above given known d subnet e =
     let form = came_from (has_subnet_form above d) _ subnet e in

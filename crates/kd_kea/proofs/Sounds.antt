@@ -16,16 +16,16 @@ use Rattle.kd_json.proofs.SoundSettings.{some_server}
 use Rattle.kd_json.proofs.Sounds.{number_or_sound}
 use Rattle.kd_json.specs.Lists.{list_of}
 use Rattle.kd_json.specs.Values.{number_if_given, text_if_given}
-use Rattle.kd_kea.specs.Definitions.{defined_at, is_dhcp4}
-use Rattle.kd_kea.specs.Keys.{keys_are_read}
-use Rattle.kd_kea.specs.OptionValue.{data_by, has_type, is_text_given, standard_type, text_kind}
-use Rattle.kd_kea.specs.Options.{address_by, address_in_bytes, code_if_given, code_named, entries_differ, entry_by, fits_in_option, has_known_type, inner_space, is_entry, is_of_message, is_served_space, is_server_option, is_short, kea_code, kea_entry, kea_options, may_configure, may_hold, may_stand_in, one_code, option_with, options_by, sent_to_all, server_address, server_code, some_address}
-use Rattle.kd_kea.specs.declared.objects.definition.Definition.{Definition}
-use Rattle.kd_kea.specs.declared.objects.entry.OptionEntry.{OptionEntry}
-use Rattle.kd_kea.specs.Tables.{data_keys}
+use Rattle.kd_keys.specs.Definitions.{defined_at, is_dhcp4}
+use Rattle.kd_keys.specs.Keys.{keys_are_read}
+use Rattle.kd_keys.specs.OptionValue.{data_by, has_type, is_text_given, standard_type, text_kind}
+use Rattle.kd_keys.specs.Options.{address_by, address_in_bytes, code_if_given, code_named, entries_differ, entry_by, fits_in_option, has_known_type, inner_space, is_entry, is_of_message, is_served_space, is_server_option, is_short, kea_code, kea_entry, kea_options, may_configure, may_hold, may_stand_in, one_code, option_with, options_by, sent_to_all, server_address, server_code, some_address}
+use Rattle.kd_keys.specs.declared.definition.DefinedOption.{DefinedOption}
+use Rattle.kd_keys.specs.declared.entry.OptionEntry.{OptionEntry}
+use Rattle.kd_keys.specs.Tables.{data_keys}
 use Rattle.kd_kea.specs.Times.{are_in_order, fits_below, is_asked_for, kea_times, offer_time, usual_rebind, usual_renew}
 use Rattle.kd_kea.specs.declared.objects.lifetimes.TermKeys.{TermKeys}
-use Rattle.kd_kea.specs.Values.{flag_given, text_otherwise}
+use Rattle.kd_keys.specs.Values.{flag_given, text_otherwise}
 use Rattle.serde_json.specs.Data.{Data}
 use Rattle.serde_json.specs.Find.{get}
 
@@ -77,7 +77,7 @@ code_range for_all code e =
     let both = both_passed (nat_le 1 code) (nat_le code 254) all.0 in
     (record { above = leb-true 1 code both.0; below = leb-true code 254 both.1 }, all.1)
 
-code_sound : (for_all : Bool) (known : List Definition) (space : List ℕ) (d : Data) (code : ℕ) → kea_code for_all known space d ≡ Some code → may_stand_in for_all space code ≡ true
+code_sound : (for_all : Bool) (known : List DefinedOption) (space : List ℕ) (d : Data) (code : ℕ) → kea_code for_all known space d ≡ Some code → may_stand_in for_all space code ≡ true
 unfolding kea_code
 code_sound for_all known space d code e =
     let given = came_from (code_if_given (get (codes "code") d)) _ code e in
@@ -91,7 +91,7 @@ other_passed : (a b : Bool) → (not a || b) ≡ true → a ≡ true → b ≡ t
 other_passed true b e f = e
 other_passed false b e f = absurd (cc)
 
-given_entry_sound : (for_all : Bool) (it : Option Definition) (space : List ℕ) (code : ℕ) (d : Data) (entry : OptionEntry) → may_stand_in for_all space code ≡ true → entry_by it space code d ≡ Some entry → IsKeaEntry for_all entry
+given_entry_sound : (for_all : Bool) (it : Option DefinedOption) (space : List ℕ) (code : ℕ) (d : Data) (entry : OptionEntry) → may_stand_in for_all space code ≡ true → entry_by it space code d ≡ Some entry → IsKeaEntry for_all entry
 unfolding entry_by
 given_entry_sound for_all it space code d entry may e =
     let text = came_from (is_text_given (has_type it (standard_type space code)) (get (codes "csv-format") d)) _ entry e in
@@ -101,7 +101,7 @@ given_entry_sound for_all it space code d entry may e =
     let test = passed_only (fits_in_option space value.first) made entry always.gives in
     subst (IsKeaEntry for_all) test.1 (record { may = other_passed (is_dhcp4 space) (may_configure for_all code) may })
 
-entry_sound : (for_all : Bool) (known : List Definition) (d : Data) (entry : OptionEntry) → kea_entry for_all known d ≡ Some entry → IsKeaEntry for_all entry
+entry_sound : (for_all : Bool) (known : List DefinedOption) (d : Data) (entry : OptionEntry) → kea_entry for_all known d ≡ Some entry → IsKeaEntry for_all entry
 unfolding kea_entry
 entry_sound for_all known d entry e =
     let keys = passed (keys_are_read data_keys d) _ entry e in
@@ -193,7 +193,7 @@ record AreKeaOptions (for_all : Bool) (options : List OptionData) : Type 0 where
   each : AllByRecursion (IsKeaOption for_all) options
   own : HaveOwnCodes options
 
-all_options : (for_all : Bool) (known : List Definition) (value : Option Data) (options : List OptionData) → kea_options for_all known value ≡ Some options → AreKeaOptions for_all options
+all_options : (for_all : Bool) (known : List DefinedOption) (value : Option Data) (options : List OptionData) → kea_options for_all known value ≡ Some options → AreKeaOptions for_all options
 unfolding kea_options
 all_options for_all known value options e =
     let read = came_from (list_of 64 (kea_entry for_all known) value) _ options e in
@@ -207,7 +207,7 @@ all_options for_all known value options e =
       own = own_sound read.first read.first differ.0;
     })
 
-pub options_sound : (known : List Definition) (value : Option Data) (options : List OptionData) → kea_options false known value ≡ Some options → AreOptions options
+pub options_sound : (known : List DefinedOption) (value : Option Data) (options : List OptionData) → kea_options false known value ≡ Some options → AreOptions options
 options_sound known value options e =
     let h = all_options false known value options e in
     record { few = h.few; each = parts_sound options h.each; own = h.own }
@@ -257,7 +257,7 @@ others_sound (o ∷ options) h =
     (λ e. all_but_server o h.0 e)
     (others_sound options h.1)
 
-pub all_sound : (known : List Definition) (value : Option Data) (options : List OptionData) → kea_options true known value ≡ Some options → AreOptions (sent_to_all options)
+pub all_sound : (known : List DefinedOption) (value : Option Data) (options : List OptionData) → kea_options true known value ≡ Some options → AreOptions (sent_to_all options)
 all_sound known value options e =
     let h = all_options true known value options e in
     record {

@@ -10,14 +10,14 @@ use Rattle.kd_json.specs.Values.{text_if_given}
 use Rattle.kd_json.specs.declared.objects.class.ClassEntry.{ClassEntry}
 use Rattle.kd_json.specs.declared.objects.class.TestSource.{TestSource}
 use Rattle.kd_json.specs.declared.objects.class.TestSource.TheVariants.{Nothing, Expression}
-use Rattle.kd_kea.specs.Boot.{own_boot}
-use Rattle.kd_kea.specs.Definitions.{kea_definitions}
-use Rattle.kd_kea.specs.Keys.{keys_are_read}
+use Rattle.kd_keys.specs.Boot.{own_boot}
+use Rattle.kd_keys.specs.Definitions.{kea_definitions}
+use Rattle.kd_keys.specs.Keys.{keys_are_read}
 use Rattle.kd_kea.specs.Lifetimes.{own_lifetime}
-use Rattle.kd_kea.specs.Options.{kea_options}
-use Rattle.kd_kea.specs.Tables.{class_keys}
-use Rattle.kd_kea.specs.Values.{unless_empty}
-use Rattle.kd_kea.specs.declared.objects.definition.Definition.{Definition}
+use Rattle.kd_keys.specs.Options.{kea_options}
+use Rattle.kd_keys.specs.Tables.{class_keys}
+use Rattle.kd_keys.specs.Values.{unless_empty}
+use Rattle.kd_keys.specs.declared.definition.DefinedOption.{DefinedOption}
 use Rattle.kd_wire.specs.Steps.{◌>>=◌}
 
 -- a text is a test, if there is one
@@ -26,13 +26,13 @@ source_by None = Nothing
 source_by (Some text) = Expression text
 
 -- the options of a class, by its own definitions before those of the whole server
-unfoldable pub kea_class_options : List Definition → Data → Option (List OptionData)
+unfoldable pub kea_class_options : List DefinedOption → Data → Option (List OptionData)
 kea_class_options known d = do
   own ← kea_definitions true (get (codes "option-def") d)
   kea_options false (own ++ known) (get (codes "option-data") d)
 
 -- the class that a value describes; an empty test is none
-unfoldable pub kea_class : List Definition → Data → Option ClassEntry
+unfoldable pub kea_class : List DefinedOption → Data → Option ClassEntry
 kea_class known d = do
   _ ← must (keys_are_read class_keys d)
   name ← get (codes "name") d >>= class_name_in

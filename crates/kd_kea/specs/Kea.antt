@@ -8,7 +8,7 @@ use Rattle.kd_json.specs.Document.{accepted, value_spelled}
 use Rattle.kd_json.specs.FirstFault.{IsFaultOfSettings}
 use Rattle.kd_json.specs.declared.fault.ConfigFault.{ConfigFault}
 use Rattle.kd_json.specs.declared.objects.settings.Settings.{Settings}
-use Rattle.kd_kea.specs.Plain.{plain}
+use Rattle.kd_plain.specs.Plain.{plain}
 use Rattle.kd_kea.specs.Settings.{kea_root}
 use Rattle.kd_wire.specs.Steps.{◌>>=◌}
 

@@ -15,7 +15,7 @@ use Rattle.kd_config.specs.declared.times.Times.{Times}
 use Rattle.kd_json.specs.Steps.{only_if}
 use Rattle.kd_json.specs.Values.{number_if_given, number_within}
 use Rattle.kd_kea.specs.Times.{has_usual_shares, shares_given}
-use Rattle.kd_kea.specs.Values.{flag_or}
+use Rattle.kd_keys.specs.Values.{flag_or}
 use Rattle.kd_kea.specs.declared.objects.lifetimes.TermKeys.{TermKeys}
 use Rattle.kd_kea.specs.declared.objects.subnet.Above.{Above}
 use Rattle.kd_kea.specs.declared.objects.times.TheConstants.{HALF, SEVEN_EIGHTHS}

@@ -11,14 +11,14 @@ use Rattle.kd_config.specs.declared.subnet.Subnet.{Subnet}
 use Rattle.kd_json.specs.Lists.{list_of}
 use Rattle.kd_json.specs.Steps.{must, only_if}
 use Rattle.kd_json.specs.Values.{text_if_given}
-use Rattle.kd_kea.specs.Keys.{is_plain, keys_are_read, word}
-use Rattle.kd_kea.specs.Options.{kea_options}
-use Rattle.kd_kea.specs.Policy.{repeats_policy}
-use Rattle.kd_kea.specs.Relay.{relays_of}
+use Rattle.kd_keys.specs.Keys.{is_plain, keys_are_read, word}
+use Rattle.kd_keys.specs.Options.{kea_options}
+use Rattle.kd_keys.specs.Policy.{repeats_policy}
+use Rattle.kd_keys.specs.Relay.{relays_of}
 use Rattle.kd_kea.specs.Subnet.{above_within, kea_subnet}
-use Rattle.kd_kea.specs.Tables.{network_keys}
-use Rattle.kd_kea.specs.Values.{unless_empty}
-use Rattle.kd_kea.specs.declared.objects.definition.Definition.{Definition}
+use Rattle.kd_keys.specs.Tables.{network_keys}
+use Rattle.kd_keys.specs.Values.{unless_empty}
+use Rattle.kd_keys.specs.declared.definition.DefinedOption.{DefinedOption}
 use Rattle.kd_kea.specs.declared.objects.network.Common.{Common}
 use Rattle.kd_kea.specs.declared.objects.subnet.Above.{Above}
 use Rattle.kd_wire.specs.Steps.{◌>>=◌}
@@ -57,7 +57,7 @@ as_member common subnet =
     }
 
 -- the member that a value describes
-unfoldable pub kea_member : Above → List Definition → Common → Data → Option Subnet
+unfoldable pub kea_member : Above → List DefinedOption → Common → Data → Option Subnet
 kea_member above known common d = do
   subnet ← kea_subnet above known d
   Some (as_member common subnet)
@@ -70,7 +70,7 @@ has_network_form above d = do
   must (is_some (get (codes "name") d >>= as_str))
 
 -- what the members of a network have in common; an empty class is none
-unfoldable pub kea_common : List Definition → Data → Option Common
+unfoldable pub kea_common : List DefinedOption → Data → Option Common
 kea_common known d = do
   relays ← relays_of (get (codes "relay") d)
   class ← text_if_given (get (codes "client-class") d)
@@ -78,7 +78,7 @@ kea_common known d = do
   Some (record { relays = relays; classes = class_list (unless_empty class); options = options })
 
 -- the members of the network that a value describes, below what holds for the whole server
-unfoldable pub kea_network : Above → List Definition → Data → Option (List Subnet)
+unfoldable pub kea_network : Above → List DefinedOption → Data → Option (List Subnet)
 kea_network above known d = do
   _ ← has_network_form above d
   common ← kea_common known d
@@ -115,7 +115,7 @@ all_subnets networks others =
     only_if (nat_le (length (numbered 1 networks ++ others)) 256) (numbered 1 networks ++ others)
 
 -- the subnets in the value of `Dhcp4`: the members of its networks, and then those in no network
-unfoldable pub kea_subnets : Above → List Definition → Data → Option (List Subnet)
+unfoldable pub kea_subnets : Above → List DefinedOption → Data → Option (List Subnet)
 kea_subnets above known d = do
   networks ← list_of 256 (kea_network above known) (get (codes "shared-networks") d)
   others ← list_of 256 (kea_subnet above known) (get (codes "subnet4") d)

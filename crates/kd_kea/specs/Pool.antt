@@ -8,11 +8,11 @@ use Rattle.kd_config.specs.declared.range.Range.{Range}
 use Rattle.kd_json.specs.Pool.{pool_addresses}
 use Rattle.kd_json.specs.Steps.{must, only_if}
 use Rattle.kd_json.specs.Values.{text_if_given}
-use Rattle.kd_kea.specs.Keys.{keys_are_read}
-use Rattle.kd_kea.specs.Options.{kea_options}
-use Rattle.kd_kea.specs.Tables.{pool_keys}
-use Rattle.kd_kea.specs.Values.{unless_empty}
-use Rattle.kd_kea.specs.declared.objects.definition.Definition.{Definition}
+use Rattle.kd_keys.specs.Keys.{keys_are_read}
+use Rattle.kd_keys.specs.Options.{kea_options}
+use Rattle.kd_keys.specs.Tables.{pool_keys}
+use Rattle.kd_keys.specs.Values.{unless_empty}
+use Rattle.kd_keys.specs.declared.definition.DefinedOption.{DefinedOption}
 use Rattle.kd_wire.specs.Steps.{◌>>=◌}
 
 -- the addresses of a pool: at most 4,194,304
@@ -32,7 +32,7 @@ may_require None = true
 may_require (Some class) = is_served_class class
 
 -- the pool that a value describes, with these definitions of options; an empty class is none
-unfoldable pub kea_pool : List Definition → Data → Option Pool
+unfoldable pub kea_pool : List DefinedOption → Data → Option Pool
 kea_pool known d = do
   _ ← must (keys_are_read pool_keys d)
   range ← get (codes "pool") d >>= kea_range

@@ -6,14 +6,14 @@ use Rattle.serde_json.specs.Find.{get}
 use Rattle.kd_config.specs.declared.reservation.Reservation.{Reservation}
 use Rattle.kd_json.specs.Steps.{must}
 use Rattle.kd_json.specs.Values.{address_given}
-use Rattle.kd_kea.specs.Boot.{boot_listed, own_boot}
-use Rattle.kd_kea.specs.HostClient.{kea_client}
-use Rattle.kd_kea.specs.HostKinds.{are_all_found}
-use Rattle.kd_kea.specs.HostName.{host_options}
-use Rattle.kd_kea.specs.Keys.{keys_are_read}
-use Rattle.kd_kea.specs.Tables.{host_keys}
-use Rattle.kd_kea.specs.declared.objects.definition.Definition.{Definition}
-use Rattle.kd_kea.specs.declared.objects.host_kinds.HostKinds.{HostKinds}
+use Rattle.kd_keys.specs.Boot.{boot_listed, own_boot}
+use Rattle.kd_keys.specs.HostClient.{kea_client}
+use Rattle.kd_keys.specs.HostKinds.{are_all_found}
+use Rattle.kd_keys.specs.HostName.{host_options}
+use Rattle.kd_keys.specs.Keys.{keys_are_read}
+use Rattle.kd_keys.specs.Tables.{host_keys}
+use Rattle.kd_keys.specs.declared.definition.DefinedOption.{DefinedOption}
+use Rattle.kd_keys.specs.declared.host_kinds.HostKinds.{HostKinds}
 use Rattle.kd_wire.specs.Steps.{◌>>=◌}
 
 -- the address of a value, or none if there is no value
@@ -23,7 +23,7 @@ address_if_given (Some d) = option_map Some (address_given d)
 
 -- the reservation that a value describes, with these definitions of options, where reservations are
 -- looked for by these kinds of identity, and host names have no suffix or have one
-unfoldable pub kea_reservation : List Definition → HostKinds → Bool → Data → Option Reservation
+unfoldable pub kea_reservation : List DefinedOption → HostKinds → Bool → Data → Option Reservation
 kea_reservation known kinds bare d = do
   _ ← must (keys_are_read host_keys d)
   _ ← must (are_all_found kinds d)

@@ -7,21 +7,21 @@ use Rattle.kd_config.specs.Configuration.{kea_extensions}
 use Rattle.kd_json.specs.Lists.{list_of}
 use Rattle.kd_json.specs.Steps.{must}
 use Rattle.kd_json.specs.declared.objects.settings.Settings.{Settings}
-use Rattle.kd_kea.specs.Boot.{kea_boot}
+use Rattle.kd_keys.specs.Boot.{kea_boot}
 use Rattle.kd_kea.specs.Class.{kea_class}
-use Rattle.kd_kea.specs.Definitions.{kea_known}
-use Rattle.kd_kea.specs.HostKinds.{finds_reservations, kinds_given, order_given}
-use Rattle.kd_kea.specs.HostName.{server_has_bare_names}
-use Rattle.kd_kea.specs.Hooks.{hooks_are_quiet}
-use Rattle.kd_kea.specs.Keys.{Plain, flag, keys_are_read, no_list}
+use Rattle.kd_keys.specs.Definitions.{kea_known}
+use Rattle.kd_keys.specs.HostKinds.{finds_reservations, kinds_given, order_given}
+use Rattle.kd_keys.specs.HostName.{server_has_bare_names}
+use Rattle.kd_keys.specs.Hooks.{hooks_are_quiet}
+use Rattle.kd_keys.specs.Keys.{Plain, flag, keys_are_read, no_list}
 use Rattle.kd_kea.specs.Lifetimes.{has_class_lifetime, kea_keys, usual_keys}
 use Rattle.kd_kea.specs.Network.{kea_subnets}
-use Rattle.kd_kea.specs.Options.{kea_options, sent_to_all, server_address}
-use Rattle.kd_kea.specs.Policy.{kea_policy}
-use Rattle.kd_kea.specs.Tables.{root_keys, server_keys}
+use Rattle.kd_keys.specs.Options.{kea_options, sent_to_all, server_address}
+use Rattle.kd_keys.specs.Policy.{kea_policy}
+use Rattle.kd_keys.specs.Tables.{root_keys, server_keys}
 use Rattle.kd_kea.specs.Times.{kea_times}
-use Rattle.kd_kea.specs.Values.{flag_given, is_plain_if_given}
-use Rattle.kd_kea.specs.declared.objects.definition.Definition.{Definition}
+use Rattle.kd_keys.specs.Values.{flag_given, is_plain_if_given}
+use Rattle.kd_keys.specs.declared.definition.DefinedOption.{DefinedOption}
 use Rattle.kd_kea.specs.declared.objects.subnet.Above.{Above}
 use Rattle.kd_wire.specs.Steps.{◌>>=◌}
 
@@ -43,7 +43,7 @@ has_server_form d = do
 
 -- the settings of options and what holds for the whole server, with the lists in the value of
 -- `Dhcp4`, by these definitions of options
-unfoldable pub kea_settings_with : List Definition → List OptionData → Above → Data → Option Settings
+unfoldable pub kea_settings_with : List DefinedOption → List OptionData → Above → Data → Option Settings
 kea_settings_with known options above d = do
   classes ← list_of 256 (kea_class known) (get (codes "client-classes") d)
   subnets ← kea_subnets above known d

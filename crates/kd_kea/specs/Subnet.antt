@@ -15,19 +15,19 @@ use Rattle.kd_json.specs.Lists.{list_of}
 use Rattle.kd_json.specs.Steps.{must}
 use Rattle.kd_json.specs.Subnet.{subnet_prefix}
 use Rattle.kd_json.specs.Values.{number_if_given, text_if_given}
-use Rattle.kd_kea.specs.Boot.{kea_boot}
-use Rattle.kd_kea.specs.HostName.{has_bare_names}
-use Rattle.kd_kea.specs.Keys.{is_plain, keys_are_read, word}
+use Rattle.kd_keys.specs.Boot.{kea_boot}
+use Rattle.kd_keys.specs.HostName.{has_bare_names}
+use Rattle.kd_keys.specs.Keys.{is_plain, keys_are_read, word}
 use Rattle.kd_kea.specs.Lifetimes.{kea_keys, term_unless_alike}
-use Rattle.kd_kea.specs.Options.{kea_options}
-use Rattle.kd_kea.specs.Parts.{parts_of_all}
-use Rattle.kd_kea.specs.Policy.{repeats_policy}
+use Rattle.kd_keys.specs.Options.{kea_options}
+use Rattle.kd_keys.specs.Parts.{parts_of_all}
+use Rattle.kd_keys.specs.Policy.{repeats_policy}
 use Rattle.kd_kea.specs.Pool.{kea_pool}
-use Rattle.kd_kea.specs.Relay.{relays_of}
+use Rattle.kd_keys.specs.Relay.{relays_of}
 use Rattle.kd_kea.specs.Reservation.{kea_reservation}
-use Rattle.kd_kea.specs.Tables.{subnet_keys}
-use Rattle.kd_kea.specs.Values.{flag_or, unless_empty}
-use Rattle.kd_kea.specs.declared.objects.definition.Definition.{Definition}
+use Rattle.kd_keys.specs.Tables.{subnet_keys}
+use Rattle.kd_keys.specs.Values.{flag_or, unless_empty}
+use Rattle.kd_keys.specs.declared.definition.DefinedOption.{DefinedOption}
 use Rattle.kd_kea.specs.declared.objects.subnet.Above.{Above}
 use Rattle.kd_wire.specs.Steps.{◌>>=◌}
 
@@ -65,7 +65,7 @@ above_within above d = do
 
 -- the subnet of a prefix and classes with the lists in a value, by these definitions of options,
 -- where this holds in it. It is in no network
-unfoldable pub kea_subnet_with : List Definition → Above → Prefix → List (List ℕ) → Data → Option Subnet
+unfoldable pub kea_subnet_with : List DefinedOption → Above → Prefix → List (List ℕ) → Data → Option Subnet
 kea_subnet_with known within prefix classes d = do
   relays ← relays_of (get (codes "relay") d)
   pools ← list_of 64 (kea_pool known) (get (codes "pools") d) >>= parts_of_all
@@ -84,7 +84,7 @@ has_subnet_form above d = do
 
 -- the subnet that a value describes, below what holds for the whole server or its network; an empty
 -- class is none
-unfoldable pub kea_subnet : Above → List Definition → Data → Option Subnet
+unfoldable pub kea_subnet : Above → List DefinedOption → Data → Option Subnet
 kea_subnet above known d = do
   _ ← has_subnet_form above d
   prefix ← get (codes "subnet") d >>= subnet_prefix

@@ -5,8 +5,8 @@ use Rattle.std.proofs.lemmas.Grind.{flat_map-append}
 use Rattle.std.proofs.lemmas.List.{map-append, take_all, take_at, take_more, drop_more}
 use Rattle.std.proofs.lemmas.List.Elements.{filter-append}
 use Rattle.std.specs.List.{flat_map, list_any}
-use Rattle.kd_kea.specs.Notes.{KeyNote, note_of}
-use Rattle.kd_kea.specs.declared.notes.Note.{Note}
+use Rattle.kd_notes.specs.Notes.{KeyNote, note_of}
+use Rattle.kd_notes.specs.declared.notes.Note.{Note}
 use Rattle.kd_start.specs.KeaWords.{is_refused_at, is_unknown, line_of_kind, more_text, refused_lines, refused_paths, refused_place, skipped_lines}
 
 -- ---- the keys that are skipped

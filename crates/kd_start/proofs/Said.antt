@@ -4,7 +4,7 @@ use Rattle.std.specs.Bool.{MatchBool}
 use Rattle.std.specs.declared.alloc.AllocError.{AllocError}
 use Rattle.std.specs.declared.alloc.Global.{Global}
 use Rattle.kd_check.specs.Located.{IsLocatedValue}
-use Rattle.kd_kea.specs.Notes.{KeyNote}
+use Rattle.kd_notes.specs.Notes.{KeyNote}
 use Rattle.kd_start.specs.KeaWords.{IsSaidAt, is_refused_at}
 
 -- what follows of words follows if there are words

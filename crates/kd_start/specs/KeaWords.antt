@@ -5,10 +5,10 @@ use Rattle.std.specs.List.{flat_map, list_any, starts_with}
 use Rattle.kd_check.specs.Located.{IsLocatedValue, located_lines}
 use Rattle.kd_check.specs.Report.{IsReport, words_at_path}
 use Rattle.kd_json.specs.declared.fault.ConfigFault.{ConfigFault}
-use Rattle.kd_kea.specs.Notes.{KeyNote, kea_notes}
-use Rattle.kd_kea.specs.Plain.{first_include, plain, spans}
-use Rattle.kd_kea.specs.declared.notes.NoteKind.{NoteKind}
-use Rattle.kd_kea.specs.declared.notes.NoteKind.TheVariants.{Skipped, Unknown, Wrong}
+use Rattle.kd_notes.specs.Notes.{KeyNote, kea_notes}
+use Rattle.kd_plain.specs.Plain.{first_include, plain, spans}
+use Rattle.kd_notes.specs.declared.notes.NoteKind.{NoteKind}
+use Rattle.kd_notes.specs.declared.notes.NoteKind.TheVariants.{Skipped, Unknown, Wrong}
 use Rattle.kd_names.specs.Values.{sign_text}
 use Rattle.kd_start.specs.Words.{AreStartWords, HoldsOfText}
 use Rattle.kd_trouble.specs.declared.fault.StartFault.{StartFault}

@@ -2,7 +2,7 @@ ghost use Rattle.std.specs.Prelude.{◌≡◌, ◌++◌, ◌&&◌, IfOk, OnOk, S
 ghost use Rattle.std.specs.List.{flat_map, list_any};
 ghost use Rattle.std.specs.Option.{option_copied};
 ghost use Rattle.kd_check.specs.Report.{words_at_path};
-ghost use Rattle.kd_kea.specs.Notes.{kea_notes, note_of};
+ghost use Rattle.kd_notes.specs.Notes.{kea_notes, note_of};
 ghost use Rattle.kd_names.specs.Values.{sign_text};
 ghost use Rattle.kd_start.specs.KeaWords.{AreKeaRemarks, AreKeaStartWords, AreNotedWords, AreTextWords, AreUnnotedWords, AreWordsBy};
 ghost use Rattle.kd_start.specs.KeaWords.{AreValueWords, IsSaidAt, IsSaidOfFault, IsSaidOfValue, include_line, is_of_value, is_path_end, is_unknown, is_wrong_beside, leads_into, line_of_kind};
@@ -12,9 +12,9 @@ ghost use Rattle.kd_start.specs.Words.{HoldsOfText};
 use crate::trying::{start_words, text_again};
 use kd_check::{config_report, located_report, located_value_report, path_words};
 use kd_json::ConfigFault;
-use kd_kea::notes::{Note, NoteKind, notes_of};
-use kd_kea::{include_in, plain_text};
 use kd_names::{put_signs, signs_of};
+use kd_notes::{Note, NoteKind, notes_of};
+use kd_plain::{include_in, plain_text};
 use kd_trouble::StartFault;
 use std::alloc::{AllocError, Global};
 

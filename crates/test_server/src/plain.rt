@@ -1,4 +1,4 @@
-use kd_kea::{include_in, plain_text};
+use kd_plain::{include_in, plain_text};
 use std::alloc::{AllocError, Global};
 use std::test::Fail;
 

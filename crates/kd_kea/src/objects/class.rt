@@ -6,29 +6,29 @@ ghost use Rattle.kd_json.specs.Gives.{Means};
 ghost use Rattle.kd_json.specs.declared.objects.faults.SettingsFault.TheVariants.{Memory};
 ghost use Rattle.kd_kea.specs.Class.{kea_class_options, kea_class, source_by};
 
-use crate::checking::check_keys;
-use crate::objects::boot::own_boot_of;
-use crate::objects::definition::{Definition, definitions_of};
-use crate::objects::flags::non_empty;
 use crate::objects::lifetimes::class_lifetime_of;
-use crate::objects::options::options_of;
-use crate::objects::scope::OptionScope;
-use crate::tables::ObjectKind;
 use kd_classes::OptionList;
 use kd_json::objects::class::{ClassEntry, TestSource, name_in};
 use kd_json::objects::faults::SettingsFault;
 use kd_json::objects::lists::EntryReader;
 use kd_json::objects::values::{own_bytes, text_or_none};
 use kd_json::rules::place::{Place, bad_value, missing};
+use kd_keys::boot::own_boot_of;
+use kd_keys::checking::check_keys;
+use kd_keys::definition::{DefinedOption, definitions_of};
+use kd_keys::flags::non_empty;
+use kd_keys::options::options_of;
+use kd_keys::scope::OptionScope;
+use kd_keys::tables::ObjectKind;
 use kd_wire::Bytes;
 use serde_json::Value;
 use std::alloc::Global;
 
-// Reads classes.
+/// Reads classes.
 #[derive(Clone, Copy)]
-pub(crate) struct ClassReader<'a> {
-    // The definitions of options of the whole server.
-    pub(crate) known: &'a [Definition],
+pub struct ClassReader<'a> {
+    /// The definitions of options of the whole server.
+    pub known: &'a [DefinedOption],
 }
 
 impl<'a> EntryReader for ClassReader<'a> {
@@ -65,8 +65,8 @@ impl<'a> EntryReader for ClassReader<'a> {
     }
 }
 
-// Reports whether a class has a name.
-pub(crate) fn has_class_name(class: &Value) -> bool
+/// Reports whether a class has a name.
+pub fn has_class_name(class: &Value) -> bool
     ensures { result
         ≡ is_some (option_and_then class_name_in (get (codes "name") (view class.now))) }
 {
@@ -85,7 +85,7 @@ fn options_of_class(
     alloc: Global,
     class: &Value,
     at: &Place<'_>,
-    known: &[Definition],
+    known: &[DefinedOption],
 ) -> Result<OptionList, SettingsFault>
     ensures { Means Memory result (kea_class_options known.now (view class.now)) }
 {

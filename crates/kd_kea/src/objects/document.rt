@@ -6,11 +6,11 @@ ghost use Rattle.kd_json.specs.declared.objects.faults.SettingsFault.TheVariants
 ghost use Rattle.kd_kea.specs.Kea.{IsFaultOfKea, kea_settings};
 
 use crate::objects::settings::root_of;
-use crate::plain::plain_text;
 use kd_json::ConfigFault;
 use kd_json::objects::document::{check_subnets, value_of};
 use kd_json::objects::faults::SettingsFault;
 use kd_json::objects::settings::Settings;
+use kd_plain::plain_text;
 use std::alloc::Global;
 
 // Reads the settings that a text of Kea's describes, if its subnets obey the rules together.

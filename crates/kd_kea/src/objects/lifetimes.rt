@@ -6,7 +6,6 @@ ghost use Rattle.kd_json.specs.Gives.{Means};
 ghost use Rattle.kd_json.specs.declared.objects.faults.SettingsFault.TheVariants.{Memory};
 ghost use Rattle.kd_kea.specs.Lifetimes.{bound_key, own_lifetime, has_class_lifetime, has_times_alone, is_in_bounds, is_key_among, is_key_below, kea_keys, keys_given, lifetime_between, lifetime_by, lifetime_of, seconds_or_above, term_of, term_unless_alike, timer_by, timer_key, timers_rise, usual_keys};
 
-use crate::objects::flags::flag_or_default;
 use crate::objects::subnet::Above;
 use crate::objects::times::{
     HALF, LONGEST, SEVEN_EIGHTHS, Shares, has_usable_shares, key_of_shares, shares_in,
@@ -16,32 +15,33 @@ use kd_config::{Term, Timer, Times};
 use kd_json::objects::faults::SettingsFault;
 use kd_json::objects::values::{number_in, number_or};
 use kd_json::rules::place::{Place, bad_value};
+use kd_keys::flags::flag_or_default;
 use serde_json::Value;
 use std::alloc::Global;
 
 // The lease time if it is not given, in seconds.
 const USUAL_LIFETIME: u32 = 7200;
 
-// What the keys for the times of leases say at a place, each by itself.
+/// What the keys for the times of leases say at a place, each by itself.
 #[derive(Clone, Copy)]
-pub(crate) struct TermKeys {
-    // The lifetime.
-    pub(crate) usual: u32,
-    // Its bounds.
-    pub(crate) least: Option<u32>,
-    pub(crate) most: Option<u32>,
-    // T1 and T2.
-    pub(crate) renew: Option<u32>,
-    pub(crate) rebind: Option<u32>,
-    // T1 and T2 are calculated with Kea's rounding where they are not given.
-    pub(crate) calculated: bool,
-    // The shares of the lifetime by which they are.
-    pub(crate) shares: Shares,
+pub struct TermKeys {
+    /// The lifetime.
+    pub usual: u32,
+    /// Its bounds.
+    pub least: Option<u32>,
+    pub most: Option<u32>,
+    /// T1 and T2.
+    pub renew: Option<u32>,
+    pub rebind: Option<u32>,
+    /// T1 and T2 are calculated with Kea's rounding where they are not given.
+    pub calculated: bool,
+    /// The shares of the lifetime by which they are.
+    pub shares: Shares,
 }
 
 impl TermKeys {
-    // Returns what the keys say where none of them is given.
-    pub(crate) fn usual() -> TermKeys
+    /// Returns what the keys say where none of them is given.
+    pub fn usual() -> TermKeys
         ensures { result ≡ usual_keys }
     {
         TermKeys {
@@ -58,15 +58,15 @@ impl TermKeys {
         }
     }
 
-    // Returns the lifetime by the keys.
-    pub(crate) fn lifetime(self) -> Lifetime
+    /// Returns the lifetime by the keys.
+    pub fn lifetime(self) -> Lifetime
         ensures { result ≡ lifetime_of self }
     {
         between(self.least, self.usual, self.most)
     }
 
-    // Reports whether T1 is at most T2, if both are given.
-    pub(crate) fn has_timers_in_order(self) -> bool
+    /// Reports whether T1 is at most T2, if both are given.
+    pub fn has_timers_in_order(self) -> bool
         ensures { result ≡ timers_rise self.renew self.rebind }
     {
         match (self.renew, self.rebind) {
@@ -109,9 +109,13 @@ fn between(least: Option<u32>, usual: u32, most: Option<u32>) -> Lifetime
     }
 }
 
-// Reads what the keys of a value say together, where they say this above it.
+/// Reads what the keys of a value say together, where they say this above it.
+///
+/// # Errors
+///
+/// `BadValue` with the path of a key whose value is wrong, by itself or together with the others.
 #[tactic(auto, unfolding(crate::specs::Lifetimes::kea_keys))]
-pub(crate) fn keys_of(
+pub fn keys_of(
     alloc: Global,
     object: &Value,
     at: &Place<'_>,
@@ -136,9 +140,13 @@ pub(crate) fn keys_of(
     Ok(keys)
 }
 
-// Reads what the keys of a value say, each by itself, where they say this above it.
+/// Reads what the keys of a value say, each by itself, where they say this above it.
+///
+/// # Errors
+///
+/// `BadValue` with the path of the first key whose value is wrong by itself.
 #[tactic(auto, unfolding(crate::specs::Lifetimes::keys_given))]
-pub(crate) fn given_keys_of(
+pub fn given_keys_of(
     alloc: Global,
     object: &Value,
     at: &Place<'_>,
@@ -185,9 +193,9 @@ fn seconds_or(
     }
 }
 
-// Returns the key at which a lifetime that is not in its bounds is reported: that of the bound, if it
-// is given.
-pub(crate) fn key_of_bound(object: &Value, bound: &'static str) -> &'static str
+/// Returns the key at which a lifetime that is not in its bounds is reported: that of the bound, if it
+/// is given.
+pub fn key_of_bound(object: &Value, bound: &'static str) -> &'static str
     ensures { result.now ≡ bound_key bound.now (view object.now) }
 {
     if object.get(bound).is_some() {
@@ -197,8 +205,8 @@ pub(crate) fn key_of_bound(object: &Value, bound: &'static str) -> &'static str
     }
 }
 
-// Returns the key at which timers that are not in order are reported: one that is given.
-pub(crate) fn key_of_timers(object: &Value) -> &'static str
+/// Returns the key at which timers that are not in order are reported: one that is given.
+pub fn key_of_timers(object: &Value) -> &'static str
     ensures { result.now ≡ timer_key (view object.now) }
 {
     if object.get("rebind-timer").is_some() {
@@ -208,9 +216,13 @@ pub(crate) fn key_of_timers(object: &Value) -> &'static str
     }
 }
 
-// Reads the lifetime that a class has, if it has one.
+/// Reads the lifetime that a class has, if it has one.
+///
+/// # Errors
+///
+/// `BadValue` with the path of a key whose value is wrong, by itself or together with the others.
 #[tactic(auto, unfolding(crate::specs::Lifetimes::own_lifetime))]
-pub(crate) fn class_lifetime_of(
+pub fn class_lifetime_of(
     alloc: Global,
     class: &Value,
     at: &Place<'_>,
@@ -259,8 +271,8 @@ fn is_bounded(lifetime: Lifetime) -> bool
     lifetime.least <= lifetime.usual && lifetime.usual <= lifetime.most
 }
 
-// Reports whether a class in the value of `Dhcp4` has a lifetime.
-pub(crate) fn is_lifetime_by_class(dhcp4: &Value) -> bool
+/// Reports whether a class in the value of `Dhcp4` has a lifetime.
+pub fn is_lifetime_by_class(dhcp4: &Value) -> bool
     ensures { result ≡ has_class_lifetime (view dhcp4.now) }
 {
     let classes = "client-classes";
@@ -269,8 +281,8 @@ pub(crate) fn is_lifetime_by_class(dhcp4: &Value) -> bool
         || is_given_below(dhcp4, classes, "max-valid-lifetime")
 }
 
-// Reports whether a value in the list at a key has another key.
-pub(crate) fn is_given_below(object: &Value, list: &str, key: &str) -> bool
+/// Reports whether a value in the list at a key has another key.
+pub fn is_given_below(object: &Value, list: &str, key: &str) -> bool
     ensures { result ≡ is_key_below list.now key.now (view object.now) }
 {
     let Some(value) = object.get(list) else {

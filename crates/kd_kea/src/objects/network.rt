@@ -6,21 +6,21 @@ ghost use Rattle.kd_json.specs.Steps.{must};
 ghost use Rattle.kd_json.specs.declared.objects.faults.SettingsFault.TheVariants.{Memory};
 ghost use Rattle.kd_kea.specs.Network.{all_subnets, as_member, has_network_form, is_in_one_of, is_interface_of, kea_common, kea_member, kea_network, kea_subnets, numbered, relays_or, with_network};
 
-use crate::checking::check_keys;
-use crate::objects::definition::Definition;
-use crate::objects::flags::{non_empty, text_at};
-use crate::objects::options::options_of;
-use crate::objects::policy::check_policy;
-use crate::objects::relay::relays_in;
-use crate::objects::scope::part_scope;
 use crate::objects::subnet::{Above, SubnetReader, above_in};
-use crate::tables::ObjectKind;
 use kd_classes::OptionList;
 use kd_config::{Subnet, classes_joined, classes_of, options_copied};
 use kd_json::objects::faults::SettingsFault;
 use kd_json::objects::lists::{EntryReader, entries_of};
 use kd_json::objects::values::text_or_none;
 use kd_json::rules::place::{Place, bad_value, unknown};
+use kd_keys::checking::check_keys;
+use kd_keys::definition::DefinedOption;
+use kd_keys::flags::{non_empty, text_at};
+use kd_keys::options::options_of;
+use kd_keys::policy::check_policy;
+use kd_keys::relay::relays_in;
+use kd_keys::scope::part_scope;
+use kd_keys::tables::ObjectKind;
 use kd_wire::{Bytes, Entries};
 use serde_json::Value;
 use std::alloc::{AllocError, Global};
@@ -35,7 +35,7 @@ pub(crate) fn subnets_of(
     dhcp4: &Value,
     at: &Place<'_>,
     above: Above,
-    known: &[Definition],
+    known: &[DefinedOption],
 ) -> Result<Entries<Subnet>, SettingsFault>
     ensures { Means Memory result (kea_subnets above known.now (view dhcp4.now)) }
 {
@@ -100,23 +100,23 @@ fn push_members(
     Ok(())
 }
 
-// What the members of a network have in common.
+/// What the members of a network have in common.
 #[derive(Drop)]
-pub(crate) struct Common {
-    // The relays of a member that names none.
-    pub(crate) relays: Entries<u32>,
-    // The classes that each member requires.
-    pub(crate) classes: Entries<Bytes>,
-    // The options of the network.
-    pub(crate) options: OptionList,
+pub struct Common {
+    /// The relays of a member that names none.
+    pub relays: Entries<u32>,
+    /// The classes that each member requires.
+    pub classes: Entries<Bytes>,
+    /// The options of the network.
+    pub options: OptionList,
 }
 
-// Reads networks.
+/// Reads networks.
 #[derive(Clone, Copy)]
-pub(crate) struct NetworkReader<'a> {
-    pub(crate) above: Above,
-    // The definitions of options.
-    pub(crate) known: &'a [Definition],
+pub struct NetworkReader<'a> {
+    pub above: Above,
+    /// The definitions of options.
+    pub known: &'a [DefinedOption],
 }
 
 impl<'a> EntryReader for NetworkReader<'a> {
@@ -175,7 +175,7 @@ fn common_of(
     alloc: Global,
     network: &Value,
     at: &Place<'_>,
-    known: &[Definition],
+    known: &[DefinedOption],
 ) -> Result<Common, SettingsFault>
     ensures { Means Memory result (kea_common known.now (view network.now)) }
 {
@@ -209,9 +209,9 @@ fn check_interface(
     }
 }
 
-// Reports whether a network's interface, if it is given, is the one with the server's address,
-// which is inside the network or not.
-pub(crate) fn has_own_interface(network: &Value, inside: bool) -> bool
+/// Reports whether a network's interface, if it is given, is the one with the server's address,
+/// which is inside the network or not.
+pub fn has_own_interface(network: &Value, inside: bool) -> bool
     ensures { result ≡ is_interface_of inside (get (codes "interface") (view network.now)) }
 {
     let Some(value) = network.get("interface") else {
@@ -235,7 +235,7 @@ fn are_around(members: &[Subnet], address: u32) -> bool
 struct MemberReader<'a> {
     above: Above,
     // The definitions of options.
-    known: &'a [Definition],
+    known: &'a [DefinedOption],
     common: &'a Common,
 }
 

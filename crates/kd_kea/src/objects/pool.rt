@@ -3,29 +3,29 @@ ghost use Rattle.serde_json.specs.Find.{as_str, get};
 ghost use Rattle.serde_json.specs.View.{view};
 ghost use Rattle.kd_kea.specs.Pool.{is_served_class, kea_pool, kea_range, may_require};
 
-use crate::checking::check_keys;
-use crate::objects::definition::Definition;
-use crate::objects::flags::non_empty;
-use crate::objects::options::options_of;
-use crate::objects::scope::part_scope;
-use crate::tables::ObjectKind;
 use kd_config::{Pool, Range, classes_of};
 use kd_json::objects::faults::SettingsFault;
 use kd_json::objects::lists::EntryReader;
 use kd_json::objects::pool::addresses_in;
 use kd_json::objects::values::text_or_none;
 use kd_json::rules::place::{Place, bad_value, missing, unknown};
+use kd_keys::checking::check_keys;
+use kd_keys::definition::DefinedOption;
+use kd_keys::flags::non_empty;
+use kd_keys::options::options_of;
+use kd_keys::scope::part_scope;
+use kd_keys::tables::ObjectKind;
 use serde_json::Value;
 use std::alloc::Global;
 
 // The most addresses of a pool: 64 times those of a pool of a configuration.
 const MOST_ADDRESSES: u32 = 4_194_304;
 
-// Reads pools.
+/// Reads pools.
 #[derive(Clone, Copy)]
-pub(crate) struct PoolReader<'a> {
-    // The definitions of options.
-    pub(crate) known: &'a [Definition],
+pub struct PoolReader<'a> {
+    /// The definitions of options.
+    pub known: &'a [DefinedOption],
 }
 
 impl<'a> EntryReader for PoolReader<'a> {
@@ -69,8 +69,8 @@ fn range_in(value: &Value) -> Option<Range>
     }
 }
 
-// Reports whether a pool has a range.
-pub(crate) fn has_range(pool: &Value) -> bool
+/// Reports whether a pool has a range.
+pub fn has_range(pool: &Value) -> bool
     ensures { result ≡ is_some (option_and_then kea_range (get (codes "pool") (view pool.now))) }
 {
     match pool.get("pool") {
@@ -79,8 +79,8 @@ pub(crate) fn has_range(pool: &Value) -> bool
     }
 }
 
-// Reports whether the class of a pool, if it is given as text, is one that a pool may require.
-pub(crate) fn has_served_class(pool: &Value) -> bool
+/// Reports whether the class of a pool, if it is given as text, is one that a pool may require.
+pub fn has_served_class(pool: &Value) -> bool
     ensures { result
         ≡ may_require (option_and_then as_str (get (codes "client-class") (view pool.now))) }
 {

@@ -5,31 +5,31 @@ ghost use Rattle.kd_json.specs.Gives.{Means};
 ghost use Rattle.kd_json.specs.declared.objects.faults.SettingsFault.TheVariants.{Memory};
 ghost use Rattle.kd_kea.specs.Reservation.{address_if_given, kea_reservation};
 
-use crate::checking::check_keys;
-use crate::objects::boot::{boot_list, own_boot_of};
-use crate::objects::definition::Definition;
-use crate::objects::host_client::client_of;
-use crate::objects::host_kinds::{HostKinds, check_kinds};
-use crate::objects::host_name::host_options_of;
-use crate::tables::ObjectKind;
 use kd_config::Reservation;
 use kd_json::objects::faults::SettingsFault;
 use kd_json::objects::lists::EntryReader;
 use kd_json::objects::values::address_in;
 use kd_json::rules::place::{Place, bad_value};
+use kd_keys::boot::{boot_list, own_boot_of};
+use kd_keys::checking::check_keys;
+use kd_keys::definition::DefinedOption;
+use kd_keys::host_client::client_of;
+use kd_keys::host_kinds::{HostKinds, check_kinds};
+use kd_keys::host_name::host_options_of;
+use kd_keys::tables::ObjectKind;
 use kd_wire::Entries;
 use serde_json::Value;
 use std::alloc::Global;
 
-// Reads reservations.
+/// Reads reservations.
 #[derive(Clone, Copy)]
-pub(crate) struct ReservationReader<'a> {
-    // The definitions of options.
-    pub(crate) known: &'a [Definition],
-    // By which kinds of identity reservations are looked for.
-    pub(crate) kinds: HostKinds,
-    // Host names have no suffix.
-    pub(crate) bare: bool,
+pub struct ReservationReader<'a> {
+    /// The definitions of options.
+    pub known: &'a [DefinedOption],
+    /// By which kinds of identity reservations are looked for.
+    pub kinds: HostKinds,
+    /// Host names have no suffix.
+    pub bare: bool,
 }
 
 impl<'a> EntryReader for ReservationReader<'a> {

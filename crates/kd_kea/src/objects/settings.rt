@@ -5,44 +5,44 @@ ghost use Rattle.serde_json.specs.View.{view};
 ghost use Rattle.kd_json.specs.Gives.{Means};
 ghost use Rattle.kd_json.specs.Steps.{must};
 ghost use Rattle.kd_json.specs.declared.objects.faults.SettingsFault.TheVariants.{Memory};
-ghost use Rattle.kd_kea.specs.Options.{server_address};
-ghost use Rattle.kd_kea.specs.Rows.{plain_of};
+ghost use Rattle.kd_keys.specs.Options.{server_address};
+ghost use Rattle.kd_keys.specs.Rows.{plain_of};
 ghost use Rattle.kd_kea.specs.Settings.{has_server_form, kea_dhcp4, kea_root, kea_settings_with, turns_nothing_on};
 
-use crate::checking::check_keys;
-use crate::keys::UsualValue;
-use crate::objects::boot::boot_of;
 use crate::objects::class::ClassReader;
-use crate::objects::definition::{Definition, known_definitions};
-use crate::objects::flags::{check_usual, flag_at, is_usual_at};
-use crate::objects::hooks::check_hooks;
-use crate::objects::host_kinds::{check_identifiers, kinds_of_server, order_of};
-use crate::objects::host_name::server_names_are_bare;
 use crate::objects::lifetimes::{TermKeys, is_lifetime_by_class, keys_of};
 use crate::objects::network::subnets_of;
-use crate::objects::options::{address_among, options_of, without_server};
-use crate::objects::policy::{Policy, policy_of};
-use crate::objects::scope::scope_of_all;
 use crate::objects::subnet::Above;
 use crate::objects::times::times_of;
-use crate::tables::ObjectKind;
 use kd_classes::{OptionData, OptionList};
 use kd_config::{Extensions, IdentityKind};
 use kd_json::objects::faults::SettingsFault;
 use kd_json::objects::lists::entries_of;
 use kd_json::objects::settings::Settings;
 use kd_json::rules::place::{Place, bad_value, missing};
+use kd_keys::boot::boot_of;
+use kd_keys::checking::check_keys;
+use kd_keys::definition::{DefinedOption, known_definitions};
+use kd_keys::flags::{check_usual, flag_at, is_usual_at};
+use kd_keys::hooks::check_hooks;
+use kd_keys::host_kinds::{check_identifiers, kinds_of_server, order_of};
+use kd_keys::host_name::server_names_are_bare;
+use kd_keys::keys::UsualValue;
+use kd_keys::options::{address_among, options_of, without_server};
+use kd_keys::policy::{Policy, policy_of};
+use kd_keys::scope::scope_of_all;
+use kd_keys::tables::ObjectKind;
 use kd_wire::Entries;
 use serde_json::Value;
 use std::alloc::Global;
 
-// Reads the settings that the JSON value of a whole text describes.
+/// Reads the settings that the JSON value of a whole text describes.
+///
+/// # Errors
+///
+/// `Missing` without `Dhcp4`; else the first fault, object by object.
 #[tactic(auto, unfolding(crate::specs::Settings::kea_root))]
-pub(crate) fn root_of(
-    alloc: Global,
-    value: &Value,
-    server: Option<u32>,
-) -> Result<Settings, SettingsFault>
+pub fn root_of(alloc: Global, value: &Value, server: Option<u32>) -> Result<Settings, SettingsFault>
     ensures { Means Memory result (kea_root server (view value.now)) }
 {
     let root = Place::Root;
@@ -53,9 +53,13 @@ pub(crate) fn root_of(
     }
 }
 
-// Reads the settings that the value of `Dhcp4` describes.
+/// Reads the settings that the value of `Dhcp4` describes.
+///
+/// # Errors
+///
+/// The first fault, object by object.
 #[tactic(auto, unfolding(crate::specs::Settings::kea_dhcp4))]
-pub(crate) fn settings_of(
+pub fn settings_of(
     alloc: Global,
     value: &Value,
     at: &Place<'_>,
@@ -86,8 +90,12 @@ pub(crate) fn settings_of(
     settings_of_lists(alloc, value, at, known.as_slice(), options, above)
 }
 
-// Returns the server's address, by the options of the whole server.
-pub(crate) fn address_of(
+/// Returns the server's address, by the options of the whole server.
+///
+/// # Errors
+///
+/// `Missing` with the path of option 54 if there is no address.
+pub fn address_of(
     alloc: Global,
     options: &[OptionData],
     at: &Place<'_>,
@@ -111,7 +119,7 @@ fn settings_of_lists(
     alloc: Global,
     value: &Value,
     at: &Place<'_>,
-    known: &[Definition],
+    known: &[DefinedOption],
     options: OptionList,
     above: Above,
 ) -> Result<Settings, SettingsFault>
@@ -195,9 +203,9 @@ fn check_off(
     check_usual(alloc, object, &Place::Key(&*at, name), key, usual)
 }
 
-// Reports whether a value is an object that turns nothing on: one key of it is absent, or has its
-// usual value.
-pub(crate) fn is_off(object: &Value, key: &str, usual: UsualValue) -> bool
+/// Reports whether a value is an object that turns nothing on: one key of it is absent, or has its
+/// usual value.
+pub fn is_off(object: &Value, key: &str, usual: UsualValue) -> bool
     ensures { result ≡ turns_nothing_on key.now (plain_of usual) (Some (view object.now)) }
 {
     object.as_object().is_some() && is_usual_at(object, key, usual)

@@ -8,25 +8,13 @@ ghost use Rattle.kd_json.specs.Lists.{list_of};
 ghost use Rattle.kd_json.specs.Steps.{must};
 ghost use Rattle.kd_json.specs.Subnet.{subnet_prefix};
 ghost use Rattle.kd_json.specs.declared.objects.faults.SettingsFault.TheVariants.{Memory};
-ghost use Rattle.kd_kea.specs.Parts.{parts_of_all};
+ghost use Rattle.kd_keys.specs.Parts.{parts_of_all};
 ghost use Rattle.kd_kea.specs.Pool.{kea_pool};
 ghost use Rattle.kd_kea.specs.Subnet.{above_within, has_subnet_form, is_at_server, is_in_none, kea_subnet, kea_subnet_with, lies_outside, stand_beside};
 
-use crate::checking::check_keys;
-use crate::objects::boot::boot_of;
-use crate::objects::definition::Definition;
-use crate::objects::flags::{flag_or_default, non_empty};
-use crate::objects::host_kinds::HostKinds;
-use crate::objects::host_name::names_are_bare;
 use crate::objects::lifetimes::{TermKeys, keys_of, term_in};
-use crate::objects::options::options_of;
-use crate::objects::parts::parts_of_pools;
-use crate::objects::policy::{Policy, check_policy};
 use crate::objects::pool::PoolReader;
-use crate::objects::relay::relays_in;
 use crate::objects::reservation::ReservationReader;
-use crate::objects::scope::part_scope;
-use crate::tables::ObjectKind;
 use kd_classes::{Boot, OptionList};
 use kd_config::{Pool, Prefix, Reservation, Reservations, Subnet, Times, classes_of};
 use kd_json::objects::faults::SettingsFault;
@@ -34,39 +22,51 @@ use kd_json::objects::lists::{EntryReader, entries_of};
 use kd_json::objects::subnet::prefix_in;
 use kd_json::objects::values::{number_or, text_or_none};
 use kd_json::rules::place::{Place, bad_value, missing, unknown};
+use kd_keys::boot::boot_of;
+use kd_keys::checking::check_keys;
+use kd_keys::definition::DefinedOption;
+use kd_keys::flags::{flag_or_default, non_empty};
+use kd_keys::host_kinds::HostKinds;
+use kd_keys::host_name::names_are_bare;
+use kd_keys::options::options_of;
+use kd_keys::parts::parts_of_pools;
+use kd_keys::policy::{Policy, check_policy};
+use kd_keys::relay::relays_in;
+use kd_keys::scope::part_scope;
+use kd_keys::tables::ObjectKind;
 use kd_wire::{Bytes, Entries};
 use serde_json::Value;
 use std::alloc::Global;
 
-// What holds for the whole server or a network, above its subnets.
+/// What holds for the whole server or a network, above its subnets.
 #[derive(Clone, Copy)]
-pub(crate) struct Above {
-    // The server's address.
-    pub(crate) server: u32,
-    // The lease and offer times.
-    pub(crate) times: Times,
-    // What the keys for the times of leases say, unless a subnet says something else.
-    pub(crate) keys: TermKeys,
-    // A class has a lifetime.
-    pub(crate) by_class: bool,
-    // Reservations are looked for outside pools alone, unless a subnet says otherwise.
-    pub(crate) outside: bool,
-    // By which kinds of identity reservations are looked for.
-    pub(crate) kinds: HostKinds,
-    // Host names have no suffix, unless a subnet says otherwise.
-    pub(crate) bare: bool,
-    // What holds of clients.
-    pub(crate) policy: Policy,
-    // What is given to the boot fields, unless a subnet gives something else.
-    pub(crate) boot: Boot,
+pub struct Above {
+    /// The server's address.
+    pub server: u32,
+    /// The lease and offer times.
+    pub times: Times,
+    /// What the keys for the times of leases say, unless a subnet says something else.
+    pub keys: TermKeys,
+    /// A class has a lifetime.
+    pub by_class: bool,
+    /// Reservations are looked for outside pools alone, unless a subnet says otherwise.
+    pub outside: bool,
+    /// By which kinds of identity reservations are looked for.
+    pub kinds: HostKinds,
+    /// Host names have no suffix, unless a subnet says otherwise.
+    pub bare: bool,
+    /// What holds of clients.
+    pub policy: Policy,
+    /// What is given to the boot fields, unless a subnet gives something else.
+    pub boot: Boot,
 }
 
-// Reads subnets.
+/// Reads subnets.
 #[derive(Clone, Copy)]
-pub(crate) struct SubnetReader<'a> {
-    pub(crate) above: Above,
-    // The definitions of options.
-    pub(crate) known: &'a [Definition],
+pub struct SubnetReader<'a> {
+    pub above: Above,
+    /// The definitions of options.
+    pub known: &'a [DefinedOption],
 }
 
 impl<'a> EntryReader for SubnetReader<'a> {
@@ -127,8 +127,8 @@ fn check_interface(
     }
 }
 
-// Reports whether a subnet's interface, if it is given, is the one with the server's address.
-pub(crate) fn has_server_interface(subnet: &Value, server: u32, prefix: Prefix) -> bool
+/// Reports whether a subnet's interface, if it is given, is the one with the server's address.
+pub fn has_server_interface(subnet: &Value, server: u32, prefix: Prefix) -> bool
     ensures { result
         ≡ is_at_server server prefix (get (codes "interface") (view subnet.now)) }
 {
@@ -141,8 +141,8 @@ pub(crate) fn has_server_interface(subnet: &Value, server: u32, prefix: Prefix) 
     }
 }
 
-// Returns a subnet's prefix, if it is given and right.
-pub(crate) fn written_prefix(subnet: &Value) -> Option<Prefix>
+/// Returns a subnet's prefix, if it is given and right.
+pub fn written_prefix(subnet: &Value) -> Option<Prefix>
     ensures { result ≡ option_and_then subnet_prefix (get (codes "subnet") (view subnet.now)) }
 {
     prefix_in(subnet.get("subnet")?)
@@ -223,12 +223,17 @@ fn subnet_of_lists(
     })
 }
 
-// Reads the pools of the list at the key `pools`.
-pub(crate) fn pools_of(
+/// Reads the pools of the list at the key `pools`.
+///
+/// # Errors
+///
+/// `BadValue` with the path of the list for more than 64 pools, or parts of pools; else the first fault of
+/// a pool.
+pub fn pools_of(
     alloc: Global,
     subnet: &Value,
     at: &Place<'_>,
-    known: &[Definition],
+    known: &[DefinedOption],
 ) -> Result<Entries<Pool>, SettingsFault>
     ensures { Means Memory result
         (option_and_then parts_of_all
@@ -256,8 +261,8 @@ fn check_outside(
     }
 }
 
-// Reports whether reservations may stand beside pools.
-pub(crate) fn may_be_beside(outside: bool, pools: &[Pool], reservations: &[Reservation]) -> bool
+/// Reports whether reservations may stand beside pools.
+pub fn may_be_beside(outside: bool, pools: &[Pool], reservations: &[Reservation]) -> bool
     ensures { result ≡ stand_beside outside pools.now reservations.now }
 {
     !outside || are_outside(pools, reservations)

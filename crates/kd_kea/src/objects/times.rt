@@ -13,31 +13,35 @@ use kd_json::rules::place::{Place, bad_value};
 use serde_json::Value;
 use std::alloc::Global;
 
-// The longest lease time, in seconds.
-pub(crate) const LONGEST: u32 = 2_147_483_647;
+/// The longest lease time, in seconds.
+pub const LONGEST: u32 = 2_147_483_647;
 
-// The usual shares of T1 and T2 in the lifetime (RFC 2131 section 4.4.5).
-pub(crate) const HALF: f64 = 0.5;
+/// The usual shares of T1 and T2 in the lifetime (RFC 2131 section 4.4.5).
+pub const HALF: f64 = 0.5;
 
-pub(crate) const SEVEN_EIGHTHS: f64 = 0.875;
+pub const SEVEN_EIGHTHS: f64 = 0.875;
 
 // The bounds of a share.
 pub(crate) const NOTHING: f64 = 0.0;
 
 pub(crate) const WHOLE: f64 = 1.0;
 
-// The shares of T1 and T2 in the lifetime.
+/// The shares of T1 and T2 in the lifetime.
 #[derive(Clone, Copy)]
-pub(crate) struct Shares {
-    // That of T1.
-    pub(crate) renew: f64,
-    // That of T2.
-    pub(crate) rebind: f64,
+pub struct Shares {
+    /// That of T1.
+    pub renew: f64,
+    /// That of T2.
+    pub rebind: f64,
 }
 
-// Reads the lease and offer times of the whole server, where the keys for them say this.
+/// Reads the lease and offer times of the whole server, where the keys for them say this.
+///
+/// # Errors
+///
+/// `BadValue` with the path of a key whose value is wrong, by itself or together with the others.
 #[tactic(auto, unfolding(crate::specs::Times::kea_times))]
-pub(crate) fn times_of(
+pub fn times_of(
     alloc: Global,
     object: &Value,
     at: &Place<'_>,
@@ -102,8 +106,8 @@ fn is_in_bound(asked: bool, time: u32, bound: u32) -> bool
     if asked { time < bound } else { time <= bound }
 }
 
-// Returns the key at which times that are not in order are reported: one that is given.
-pub(crate) fn key_of_times(object: &Value) -> &'static str
+/// Returns the key at which times that are not in order are reported: one that is given.
+pub fn key_of_times(object: &Value) -> &'static str
     ensures { result.now ≡ times_key (view object.now) }
 {
     if object.get("rebind-timer").is_some() {
@@ -138,16 +142,16 @@ fn share_at(object: &Value, key: &'static str, usual: f64) -> f64
     }
 }
 
-// Reports whether the shares of T1 and T2 are ones that Kea takes, or not used.
-pub(crate) fn has_usable_shares(calculated: bool, shares: Shares) -> bool
+/// Reports whether the shares of T1 and T2 are ones that Kea takes, or not used.
+pub fn has_usable_shares(calculated: bool, shares: Shares) -> bool
     ensures { result ≡ has_usual_shares calculated shares }
 {
     !calculated || are_usable(shares)
 }
 
-// Returns the key at which shares that Kea does not take are reported: one that is given, or the one by
-// which they are used.
-pub(crate) fn key_of_shares(object: &Value) -> &'static str
+/// Returns the key at which shares that Kea does not take are reported: one that is given, or the one by
+/// which they are used.
+pub fn key_of_shares(object: &Value) -> &'static str
     ensures { result.now ≡ share_key (view object.now) }
 {
     if !is_usable_share(share_at(object, "t2-percent", SEVEN_EIGHTHS)) {

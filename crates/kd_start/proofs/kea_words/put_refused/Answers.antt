@@ -1,6 +1,6 @@
 use Rattle.std.proofs.Common.{◌≡◌, ◌≤◌, ◌++◌, ◌∙◌, OnOk, List, ap, append_assoc, arith, get_or, length, string_bytes, subst, sym, take, true, ℕ}
 use Rattle.std.proofs.lemmas.List.{take_all}
-use Rattle.kd_kea.specs.declared.notes.Note.{Note}
+use Rattle.kd_notes.specs.declared.notes.Note.{Note}
 use Rattle.kd_start.specs.KeaWords.{is_unknown, more_text, refused_lines}
 use Rattle.kd_start.proofs.Keys.{all_shown, cut_shown, paths_in, places}
 use Rattle.kd_start.proofs.kea_words.put_refused.Goals as goal

@@ -1,5 +1,5 @@
 use Rattle.std.proofs.Common.{◌≡◌, ◌++◌, map, string_bytes, take}
-use Rattle.kd_kea.specs.Notes.{note_of}
+use Rattle.kd_notes.specs.Notes.{note_of}
 use Rattle.kd_start.specs.KeaWords.{skipped_lines}
 use Rattle.kd_start.proofs.kea_words.put_skipped.Given as goal
 

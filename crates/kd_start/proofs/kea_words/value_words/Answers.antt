@@ -1,7 +1,7 @@
 use Rattle.std.proofs.Common.{◌≡◌, ◌≤◌, ◌++◌, ◌∙◌, ◌+◌, ℕ, true, List, [], ◌∷◌, ap, arith, get_or, length, length-append, string_bytes, subst, sym, take}
 use Rattle.std.proofs.lemmas.List.{take_all}
-use Rattle.kd_kea.specs.Notes.{note_of}
-use Rattle.kd_kea.specs.declared.notes.Note.{Note}
+use Rattle.kd_notes.specs.Notes.{note_of}
+use Rattle.kd_notes.specs.declared.notes.Note.{Note}
 use Rattle.kd_start.specs.KeaWords.{AreSaidOfValues, AreValueWords, IsSaidOfValue, is_wrong_beside, more_values}
 use Rattle.kd_start.proofs.Keys.{paths_by, some_behind, some_grow, some_stay}
 use Rattle.kd_start.proofs.Values.{all_said, first_said, one_more}

@@ -1,6 +1,6 @@
 use Rattle.std.proofs.Common.{◌≡◌, ◌∙◌, map, string_bytes, sym, true, false}
 use Rattle.kd_check.specs.Located.{IsLocatedValue}
-use Rattle.kd_kea.specs.Notes.{note_of}
+use Rattle.kd_notes.specs.Notes.{note_of}
 use Rattle.kd_start.specs.KeaWords.{IsSaidAt, is_refused_at}
 use Rattle.kd_start.proofs.Keys.{noted_same}
 use Rattle.kd_start.proofs.Said.{nothing_said, so, value_said}

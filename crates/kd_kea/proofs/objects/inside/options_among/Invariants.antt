@@ -1,9 +1,0 @@
-use Rattle.std.proofs.Common.{◌≡◌, ◌++◌, drop, map}
-use Rattle.std.specs.List.{filter}
-use Rattle.kd_kea.specs.Options.{is_of_message, option_with, options_by}
-use Rattle.kd_kea.proofs.objects.inside.options_among.Given as goal
-
-abbrev pub invariant-loop-entry : goal.invariant-loop-entry
-invariant-loop-entry l =
-    l.options.items ++ map (option_with l.entries) (filter is_of_message (drop l.entry-index l.entries))
-    ≡ options_by l.entries

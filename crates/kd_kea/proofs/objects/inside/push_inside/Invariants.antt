@@ -1,6 +1,0 @@
-use Rattle.std.proofs.Common.{◌≡◌, ◌++◌}
-use Rattle.kd_kea.specs.Options.{options_below}
-use Rattle.kd_kea.proofs.objects.inside.push_inside.Given as goal
-
-abbrev pub invariant-loop-code : goal.invariant-loop-code
-invariant-loop-code l = l.out.items ≡ l.fn.out.items ++ options_below l.entries l.space l.code

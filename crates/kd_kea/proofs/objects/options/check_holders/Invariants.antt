@@ -1,7 +1,0 @@
-use Rattle.std.proofs.Common.{◌≡◌, drop}
-use Rattle.std.specs.List.{list_all}
-use Rattle.kd_kea.specs.Options.{may_hold}
-use Rattle.kd_kea.proofs.objects.options.check_holders.Given as goal
-
-abbrev pub invariant-loop-i : goal.invariant-loop-i
-invariant-loop-i l = list_all (may_hold l.entries) l.entries ≡ list_all (may_hold l.entries) (drop l.i l.entries)

@@ -1,6 +1,0 @@
-use Rattle.std.proofs.Common.{◌≡◌}
-use Rattle.kd_kea.specs.Options.{sent_to_all}
-use Rattle.kd_kea.proofs.objects.options.without_server.Given as goal
-
-abbrev pub invariant-loop-option : goal.invariant-loop-option
-invariant-loop-option l = l.left.items ≡ sent_to_all l.yielded

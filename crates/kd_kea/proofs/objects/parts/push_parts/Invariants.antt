@@ -1,6 +1,0 @@
-use Rattle.std.proofs.Common.{◌≡◌, ◌++◌}
-use Rattle.kd_kea.specs.Parts.{first_parts}
-use Rattle.kd_kea.proofs.objects.parts.push_parts.Given as goal
-
-abbrev pub invariant-loop-i : goal.invariant-loop-i
-invariant-loop-i l = l.out.items ≡ l.fn.out.items ++ first_parts l.pool l.i

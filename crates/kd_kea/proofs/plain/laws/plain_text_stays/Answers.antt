@@ -1,6 +1,0 @@
-use Rattle.kd_kea.proofs.Already.{plain_stays_without}
-use Rattle.kd_kea.proofs.Blanked.{plain_stays}
-use Rattle.kd_kea.proofs.plain.laws.plain_text_stays.Goals as goal
-
-pub returns : goal.returns
-returns c = record { outside_strings = plain_stays; anywhere = plain_stays_without }

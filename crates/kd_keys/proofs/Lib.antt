@@ -1,0 +1,9 @@
+pub mod Rows
+pub mod Tests
+pub mod Spaces
+pub mod Fields
+pub mod Scopes
+pub mod PartByPart
+pub mod WorkedNames
+pub mod WorkedClients
+pub mod WorkedBoot

@@ -1,0 +1,4 @@
+pub mod Noted
+pub mod NoUnknown
+pub mod NoneWrong
+pub mod WorkedNotes

@@ -1,0 +1,7 @@
+pub mod Spans
+pub mod Signs
+pub mod Cuts
+pub mod Written
+pub mod Includes
+pub mod Blanked
+pub mod Already
