@@ -26,20 +26,22 @@ no_extensions =
       selects_links = false;
       sets_server = false;
       keeps_leases = false;
+      moves_clients = false;
       is_authoritative = false;
       ignores_client_ids = false;
       identity_order = [];
     }
 
 -- those of a configuration of Kea's are: relays select links and set the server's identifier, clients
--- keep leases, and whether the server is authoritative and ignores client identifiers, and the order of the kinds of identities, is
--- as its file says
+-- keep leases and are to move to reserved addresses, and whether the server is authoritative and ignores
+-- client identifiers, and the order of the kinds of identities, is as its file says
 abbrev pub kea_extensions : Bool → Bool → List IdentityKind → Extensions
 kea_extensions is_authoritative ignores_client_ids order =
     record {
       selects_links = true;
       sets_server = true;
       keeps_leases = true;
+      moves_clients = true;
       is_authoritative = is_authoritative;
       ignores_client_ids = ignores_client_ids;
       identity_order = order;

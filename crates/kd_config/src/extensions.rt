@@ -15,6 +15,9 @@ pub struct Extensions {
     /// A client that renews its lease, without a relay, keeps it although it is not in the class that
     /// its subnet or its pool requires (our own choice).
     pub keeps_leases: bool,
+    /// A client is to move to an address that is reserved for it as soon as nobody uses that: its
+    /// REQUEST of another one gets a NAK.
+    pub moves_clients: bool,
     /// The server is the authority on its subnets: a client of which it has no record, and that asks
     /// for an address again, gets a NAK instead of no reply (Kea Administrator Reference Manual,
     /// Authoritative DHCPv4 Server Behavior).
@@ -37,6 +40,7 @@ impl Extensions {
             selects_links: false,
             sets_server: false,
             keeps_leases: false,
+            moves_clients: false,
             is_authoritative: false,
             ignores_client_ids: false,
             identity_order: Entries::own(Vec::new(alloc)),
@@ -44,7 +48,7 @@ impl Extensions {
     }
 
     /// Returns those of a configuration of Kea's: relays select links and set the server's identifier,
-    /// clients keep leases, and the others are as the file says.
+    /// clients keep leases and are to move, and the others are as the file says.
     pub fn of_kea(
         is_authoritative: bool,
         ignores_client_ids: bool,
@@ -56,6 +60,7 @@ impl Extensions {
             selects_links: true,
             sets_server: true,
             keeps_leases: true,
+            moves_clients: true,
             is_authoritative,
             ignores_client_ids,
             identity_order,

@@ -10,7 +10,7 @@ use Rattle.kd_event.specs.declared.reason.Reason.TheVariants as reasons
 use Rattle.kd_lease.specs.Choice.{Asking, address_reserved, contained, pooled, reserved_anywhere, same_address}
 use Rattle.kd_lease.specs.Client.{kind_of, named_server}
 use Rattle.kd_lease.specs.Kept.{circuit_reservation, is_own_in_classes, passes}
-use Rattle.kd_lease.specs.Rules.{IsAbout, checks_in, ending, fails, holds_at, kept_subnet, passes_in, rule_of, serving_subnet}
+use Rattle.kd_lease.specs.Rules.{IsAbout, awaited_in, checks_in, ending, fails, holds_at, kept_subnet, passes_in, rule_of, serving_subnet}
 use Rattle.kd_lease.specs.declared.plan.Plan.{Plan}
 use Rattle.kd_lease.specs.declared.rule.Check.{Check}
 use Rattle.kd_lease.specs.declared.rule.Check.TheVariants as checks
@@ -175,6 +175,33 @@ lasts_line lasts q a =
 abbrev pub free_line : Bool → List ℕ
 free_line is_free = codes "check free: " ++ yes_word is_free ++ codes "\n"
 
+-- the address, other than the one that a message is about, that is reserved for the client in the
+-- subnet that serves it
+abbrev pub reserved_elsewhere : Asking → Option Subnet → Option ℕ → Option ℕ
+reserved_elsewhere q None about = None
+reserved_elsewhere q (Some s) None = None
+reserved_elsewhere q (Some s) (Some a) = awaited_in q s a
+
+-- that address, in a configuration whose clients are to move
+abbrev pub awaited_address : Asking → Option ℕ → Option ℕ
+awaited_address q a =
+    if q.config.extensions.moves_clients then reserved_elsewhere q (serving_subnet q) a else None
+
+-- whether somebody uses the address to which a client is to move, because of which it stays
+abbrev pub use_word : Bool → List ℕ
+use_word is_used = if is_used then codes "in use" else codes "unused"
+
+-- an address that is reserved for the client, and whether it is in use
+abbrev pub reserved_words : Bool → ℕ → List ℕ
+reserved_words is_used a =
+    address_text a ++ codes " is reserved for the client and " ++ use_word is_used ++ codes "\n"
+
+-- whether the client stays where it is, if another address is reserved for it
+abbrev pub stays_line : Bool → Option ℕ → List ℕ
+stays_line stays None = []
+stays_line stays (Some a) =
+    codes "check stays: " ++ yes_word stays ++ codes ", " ++ reserved_words stays a
+
 -- whether the client holds the address
 abbrev pub held_line : Bool → List ℕ
 held_line is_held = codes "check held: " ++ yes_word is_held ++ codes "\n"
@@ -195,6 +222,7 @@ rule_line q rule a checks.Owner = row_line_at q a ++ owner_line (holds_at q a ch
 rule_line q rule a checks.Fits = fits_line (holds_at q a checks.Fits) q a
 rule_line q rule a checks.Lasts = lasts_line (holds_at q a checks.Lasts) q a
 rule_line q rule a checks.Free = row_line_at q a ++ free_line (holds_at q a checks.Free)
+rule_line q rule a checks.Stays = stays_line (holds_at q a checks.Stays) (awaited_address q a)
 rule_line q rule a checks.Held = row_line_at q a ++ held_line (holds_at q a checks.Held)
 
 -- the checks that are made of a message: those of its rule up to the first that it does not pass

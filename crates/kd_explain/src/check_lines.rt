@@ -9,6 +9,7 @@ use crate::finding_lines::{
     put_address_found, put_client_found, put_fits, put_free, put_held, put_lasts, put_offer,
     put_owner, put_prefix_found, put_row_found, put_sender, put_server, put_subnet_found,
 };
+use crate::moving_lines::{awaited_of, put_stays};
 use crate::text::Scene;
 use kd_event::Reason;
 use kd_lease::{Check, Ending, Ground, Line, Matter, Plan, Question, ending_of, holds, server_of};
@@ -164,6 +165,11 @@ fn put_check(
             put_row_found(alloc, out, matter)?;
             put_free(out, holds(matter, check))
         }
+        Check::Stays => put_stays(
+            out,
+            holds(matter, check),
+            awaited_of(question, matter.address),
+        ),
         Check::Held => {
             put_row_found(alloc, out, matter)?;
             put_held(out, holds(matter, check))

@@ -20,6 +20,7 @@ mod gift;
 pub mod laws;
 mod lifetime_origins;
 mod message_lines;
+mod moving_lines;
 mod option_lines;
 mod origins;
 mod outcome_lines;

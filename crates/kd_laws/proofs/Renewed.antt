@@ -11,12 +11,12 @@ use Rattle.kd_config.specs.declared.reservation.Reservation.{Reservation}
 use Rattle.kd_config.specs.declared.subnet.Subnet.{Subnet}
 use Rattle.kd_lease.proofs.Homes.{found, found_passes, home_contains, home_covers, none_among, weaker}
 use Rattle.kd_lease.proofs.Records.{known_there}
-use Rattle.kd_lease.specs.Choice.{Asking, contained, fitting_for, has_such, live_row, reserved_anywhere, reserved_in}
+use Rattle.kd_lease.specs.Choice.{Asking, address_reserved, contained, fitting_for, has_such, live_row, reserved_anywhere, reserved_in}
 use Rattle.kd_lease.specs.Client.{kind_of, named_server, requested_address}
 use Rattle.kd_lease.specs.Kept.{bound_state, ciaddr_in, has_to_keep, if_for_circuit, if_unseen, is_behind_circuit, is_leased_in, is_own_in_classes, passes, renews_lease, subnet_keeping, unseen_reservation}
 use Rattle.kd_lease.specs.Laws.{EndsDecide}
 use Rattle.kd_lease.specs.Plan.{Outcome}
-use Rattle.kd_lease.specs.Rules.{Does, IsAbout, IsReplyOf, Makes, checks_in, client_has, ending, ends_by, fails, holds_at, kept_subnet, known_in, lasting_for, leased_row, may_last, passes_in, rule_by, rule_of, serving_subnet}
+use Rattle.kd_lease.specs.Rules.{Does, IsAbout, IsReplyOf, Makes, checks_in, client_has, ending, ends_by, fails, has_to_move, holds_at, is_awaited, is_unused, kept_subnet, known_in, lasting_for, leased_row, may_last, other_than, passes_in, rule_by, rule_of, serving_subnet}
 use Rattle.kd_lease.specs.Server.{other_server, server_identifier}
 use Rattle.kd_lease.specs.SubnetOf.{subnet_serving}
 use Rattle.kd_lease.specs.declared.plan.PlanKind.TheVariants as kinds
@@ -92,6 +92,10 @@ free_lasts q s there free =
           ⊎_elim (λ it. it) (λ reserved. absurd (false≢true (sym (none_among (has_to_keep q.message.header.ciaddr) (reserved_in q.message.header.ciaddr) q.config.subnets s there free) ∙ reserved)))
           (or_cases (contained s q.message.header.ciaddr) (reserved_in q.message.header.ciaddr s) (keeper_has q s there).1)
 
+never : (b : Bool) → (b && false) ≡ false
+never true = refl
+never false = refl
+
 module _ (q : Asking) (keeps : q.config.extensions.keeps_leases ≡ true) (renews : renews_lease q.rows q.message q.now q.client ≡ true) (first : (s : Subnet) × (find (has_to_keep q.message.header.ciaddr) q.config.subnets ≡ Some s)) (may : may_last q.config q.message (home_of q.config.subnets first.0) q.message.header.ciaddr ≡ true) where
   a : ℕ
   a = q.message.header.ciaddr
@@ -149,10 +153,18 @@ module _ (q : Asking) (keeps : q.config.extensions.keeps_leases ≡ true) (renew
   renewable_there : holds_at q (Some a) checks.Lasts ≡ true
   renewable_there = ap (λ (o : Option Subnet). passes_in (lasting_for q) o (Some a)) serves ∙ lasts
 
+  -- an address that may be its own by what only a relay shows is not one that it is to leave
+  unseen_stays : is_some (unseen_reservation q.message its_home a) ≡ true → has_to_move q (Some a) ≡ false
+  unfolding its_home a
+  unseen_stays own =
+      ap (λ (o : Option Subnet). q.config.extensions.moves_clients && passes_in (is_awaited q) o (Some a)) serves
+      ∙ ap (λ (b : Bool). q.config.extensions.moves_clients && passes (is_unused q) (if b then None else other_than a (address_reserved q.config q.names q.message its_home))) (and_from (is_some (kept_subnet q)) (is_some (unseen_reservation q.message its_home a)) (ap is_some kept) own)
+      ∙ never q.config.extensions.moves_clients
+
   -- so the message passes all checks, and the address is leased
-  passed : Passed q (Some a) (checks_in rules.Renew)
+  passed : has_to_move q (Some a) ≡ false → Passed q (Some a) (checks_in rules.Renew)
   unfolding Passed
-  passed = (server, (refl, (ap is_some serves, (prefix, (known, (mine, (renewable_there, tt)))))))
+  passed stays = (server, (refl, (ap is_some serves, (prefix, (known, (mine, (renewable_there, (ap not stays, tt))))))))
 
   ruled : rule_of q types.Request ≡ rules.Renew
   ruled = ap (rule_by types.Request) unnamed
@@ -163,19 +175,19 @@ module _ (q : Asking) (keeps : q.config.extensions.keeps_leases ≡ true) (renew
       subst (λ (r : Rule). IsAbout q r (Some q.message.header.ciaddr)) (sym ruled)
       (sym (ap (λ (b : Bool). if b then requested_address q.message else Some q.message.header.ciaddr) leases.0))
 
-  leases_it : ending q (Some a) (rule_of q types.Request) ≡ ends.Lease
-  leases_it = ap (ending q (Some a)) ruled ∙ ap (λ (o : Option (Check × Ending)). ends_by o ends.Lease) (none_fails q (Some a) (checks_in rules.Renew) passed)
+  leases_it : has_to_move q (Some a) ≡ false → ending q (Some a) (rule_of q types.Request) ≡ ends.Lease
+  leases_it stays = ap (ending q (Some a)) ruled ∙ ap (λ (o : Option (Check × Ending)). ends_by o ends.Lease) (none_fails q (Some a) (checks_in rules.Renew) (passed stays))
 
-  begins_anew : EndsDecide → (set : Option Row) (outcome : Outcome) → Does q set outcome → (set ≡ Some (leased_row q q.message.header.ciaddr)) × IsReplyOf kinds.Ack q.message.header.ciaddr outcome
+  begins_anew : has_to_move q (Some q.message.header.ciaddr) ≡ false → EndsDecide → (set : Option Row) (outcome : Outcome) → Does q set outcome → (set ≡ Some (leased_row q q.message.header.ciaddr)) × IsReplyOf kinds.Ack q.message.header.ciaddr outcome
   unfolding a
-  begins_anew decide set outcome does =
-      subst (λ (e : Ending). Makes q (Some q.message.header.ciaddr) e set outcome) leases_it (decide q types.Request (Some q.message.header.ciaddr) set outcome (sym kind) about does)
+  begins_anew stays decide set outcome does =
+      subst (λ (e : Ending). Makes q (Some q.message.header.ciaddr) e set outcome) (leases_it stays) (decide q types.Request (Some q.message.header.ciaddr) set outcome (sym kind) about does)
 
 -- a renewal without a relay is kept
 pub renewals_kept : EndsDecide → RenewalsAreKept
-renewals_kept decide q set outcome keeps renews pooled free does =
+renewals_kept decide q set outcome keeps renews pooled free stays does =
     let first = pooled_keeper q pooled in
-    begins_anew q keeps renews first (free_lasts q first.0 first.1 free) decide set outcome does
+    begins_anew q keeps renews first (free_lasts q first.0 first.1 free) stays decide set outcome does
 
 -- the subnet that is found, if its home is this one
 kept_there : (subnets : List Subnet) (a : ℕ) (s : Subnet) → subnet_keeping subnets a ≡ Some s → (t : Subnet) × (find (has_to_keep a) subnets ≡ Some t) × (home_of subnets t ≡ s)
@@ -186,12 +198,13 @@ kept_there subnets a s is = by (find (has_to_keep a) subnets) refl is where
 
 -- also where its reservation is one that no relay shows
 pub reservations_kept : EndsDecide → ReservationsKeepLeases
+unfolding its_home kept_there a
 reservations_kept decide q s set outcome keeps renews there reserved does =
     let a = q.message.header.ciaddr in
     let first = kept_there q.config.subnets a s there in
     let some : is_some (unseen_reservation q.message (home_of q.config.subnets first.0) a) ≡ true = ap (λ (t : Subnet). is_some (unseen_reservation q.message t a)) first.2 ∙ reserved in
-    begins_anew q keeps renews (first.0, first.1)
-    (or_right (contained (home_of q.config.subnets first.0) a && not (reserved_anywhere q.config a)) (is_some (unseen_reservation q.message (home_of q.config.subnets first.0) a)) some) decide set outcome does
+    let may = or_right (contained (home_of q.config.subnets first.0) a && not (reserved_anywhere q.config a)) (is_some (unseen_reservation q.message (home_of q.config.subnets first.0) a)) some in
+    begins_anew q keeps renews (first.0, first.1) may (unseen_stays q keeps renews (first.0, first.1) may some) decide set outcome does
 
 -- one for a circuit is of this kind
 behind_unseen : (m : Seen) (o : Option Reservation) → is_some (if_for_circuit o) ≡ true → is_some (if_unseen m o) ≡ true

@@ -6,8 +6,8 @@ ghost use Rattle.kd_laws.specs.Renewals.{CircuitsKeepLeases, RenewalsAreKept, Re
 ///
 /// Take a configuration whose clients keep their leases, as those of Kea's, and a REQUEST of a client
 /// that names no server and came through no relay. Its `ciaddr` is an address that it leases, which a
-/// pool contains and which is not reserved. Then it gets an ACK of the address, and the lease begins
-/// anew.
+/// pool contains and which is not reserved. The client is not to move to another address, which is
+/// reserved for it and which nobody uses. Then it gets an ACK of the address, and the lease begins anew.
 pub fn renewals_are_kept()
     ensures { RenewalsAreKept }
 {

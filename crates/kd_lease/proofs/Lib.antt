@@ -18,5 +18,6 @@ pub mod Reserved
 pub mod Served
 pub mod Single
 pub mod Strangers
+pub mod Moves
 pub mod Valuing
 pub mod Withheld

@@ -27,7 +27,7 @@ module _ (q : Asking) (a : ℕ) (done : Ending) where
 
 -- the checks of a renewal behind each of them
 abbrev behind_owner : List (Check × Ending)
-behind_owner = (checks.Lasts, ends.Nak) ∷ []
+behind_owner = (checks.Lasts, ends.Nak) ∷ (checks.Stays, ends.Nak) ∷ []
 
 abbrev behind_client : List (Check × Ending)
 behind_client = (checks.Owner, ends.Nak) ∷ behind_owner

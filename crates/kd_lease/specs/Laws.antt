@@ -1,5 +1,5 @@
 -- What is true of the rules for every configuration, table, message and time.
-use Rattle.std.specs.Prelude.{◌≡◌, ℕ, true, false, not, ◌&&◌, ◌==◌, ◌⊎◌, List, [], Option, Some, None, option_map, IsSomeAnd, is_some}
+use Rattle.std.specs.Prelude.{◌≡◌, ◌≢◌, ℕ, true, false, not, ◌&&◌, ◌==◌, ◌⊎◌, List, [], Option, Some, None, option_map, IsSomeAnd, is_some}
 use Rattle.std.specs.List.{AllByRecursion, find}
 use Rattle.kd_config.specs.Address.{has_address}
 use Rattle.kd_config.specs.Networks.{covers, home_of, part_holding}
@@ -17,7 +17,7 @@ use Rattle.kd_lease.specs.Client.{client_identity, identity_under, kind_of, name
 use Rattle.kd_lease.specs.Kept.{reservation_at}
 use Rattle.kd_lease.specs.Plan.{Content, Outcome}
 use Rattle.kd_lease.specs.Plan.Outcome.{planned}
-use Rattle.kd_lease.specs.Rules.{Does, IsAbout, Makes, Sets, client_has, ending, held_at, holds_at, known_in, lasting_for, renewable, rule_of, serving_subnet}
+use Rattle.kd_lease.specs.Rules.{Does, IsAbout, Makes, Sets, client_has, ending, has_to_move, held_at, holds_at, known_in, lasting_for, renewable, rule_of, serving_subnet}
 use Rattle.kd_config.specs.Classed.{classes_admit}
 use Rattle.kd_lease.specs.Server.{names_another, other_server, server_identifier}
 use Rattle.kd_lease.specs.SubnetOf.{first_serving, header_place, link_of, message_place, subnet_serving}
@@ -152,6 +152,18 @@ RenewedByClass =
     (q : Asking) → q.config.extensions.keeps_leases ≡ false
     → (serving_subnet q ≡ subnet_serving q.config q.names q.message)
     × ((s : Subnet) (a : ℕ) → lasting_for q s a ≡ fitting_for q s a)
+
+-- where clients are not to move, an address that is reserved for a client elsewhere refuses it nothing
+abbrev pub NobodyMoves : Type 0
+NobodyMoves =
+    (q : Asking) (about : Option ℕ) → q.config.extensions.moves_clients ≡ false
+    → holds_at q about checks.Stays ≡ true
+
+-- a client that is to move can neither get another address by a REQUEST nor renew it
+abbrev pub ClientsMove : Type 0
+ClientsMove =
+    (q : Asking) (a : ℕ) → has_to_move q (Some a) ≡ true
+    → (ending q (Some a) rules.Select ≢ ends.Lease) × (ending q (Some a) rules.Renew ≢ ends.Lease)
 
 -- where the server is not authoritative, a renewal is only refused for want of a record if its client
 -- has none in the subnet that serves it

@@ -20,7 +20,7 @@ use Rattle.kd_rows.specs.Table.{belongs_to, row_at}
 use Rattle.kd_rows.specs.declared.row.Row.{Row}
 use Rattle.kd_rows.specs.declared.row.State.{State}
 use Rattle.kd_rows.specs.declared.row.State.TheVariants as states
-use Rattle.kd_lease.specs.Choice.{Asking, Choice, NoChoice, contained, fitting_for, free_for, has_such, held_row, live_row, reserved_anywhere, set_later}
+use Rattle.kd_lease.specs.Choice.{Asking, Choice, NoChoice, address_reserved, contained, fitting_for, free_for, has_such, held_row, live_row, reserved_anywhere, set_later}
 use Rattle.kd_lease.specs.Client.{kind_of, named_server, requested_address}
 use Rattle.kd_lease.specs.Kept.{ciaddr_in, is_leased_in, kept_in, passes, unseen_reservation}
 use Rattle.kd_lease.specs.Plan.{Outcome}
@@ -155,6 +155,30 @@ lasting_for q s a =
 abbrev pub renewable : Asking → Subnet → ℕ → Bool
 renewable q s a = client_has q a && lasting_for q s a
 
+-- nobody uses an address: it has no row, or one that has ended, or that of an offer to the client
+abbrev pub is_unused : Asking → ℕ → Bool
+is_unused q a = not (has_such (live_row q.now) (row_at q.rows a)) || offered_to q a
+
+-- the client keeps its lease of an address whose reservation may be for it, though no relay shows that
+abbrev pub may_be_its : Asking → Subnet → ℕ → Bool
+may_be_its q s a = is_some (kept_subnet q) && is_some (unseen_reservation q.message s a)
+
+-- an address, if it is another one than this
+abbrev pub other_than : ℕ → Option ℕ → Option ℕ
+other_than a None = None
+other_than a (Some b) = if b == a then None else Some b
+
+-- the address, other than this one, that is reserved for the client in a subnet, unless this one may be
+-- reserved for it
+abbrev pub awaited_in : Asking → Subnet → ℕ → Option ℕ
+awaited_in q s a =
+    if may_be_its q s a then None
+    else other_than a (address_reserved q.config q.names q.message s)
+
+-- there is such an address, and nobody uses it
+abbrev pub is_awaited : Asking → Subnet → ℕ → Bool
+is_awaited q s a = passes (is_unused q) (awaited_in q s a)
+
 -- ---- the address that a message is about
 
 -- the address to offer to the client, or none if there is none
@@ -190,6 +214,12 @@ abbrev pub known_in : Asking → Option Subnet → Bool
 known_in q None = false
 known_in q (Some s) = list_any (λ row. is_record q s row.address) q.rows
 
+-- the client is to move: in a configuration whose clients do, another address than the one that its
+-- message is about, which nobody uses, is reserved for it
+abbrev pub has_to_move : Asking → Option ℕ → Bool
+has_to_move q about =
+    q.config.extensions.moves_clients && passes_in (is_awaited q) (serving_subnet q) about
+
 -- a message about this address passes a check
 abbrev pub holds_at : Asking → Option ℕ → Check → Bool
 holds_at q about checks.Server = not (names_another q.config q.message)
@@ -204,6 +234,7 @@ holds_at q about checks.Owner = passes (client_has q) about
 holds_at q about checks.Fits = passes_in (fitting_for q) (serving_subnet q) about
 holds_at q about checks.Lasts = passes_in (lasting_for q) (serving_subnet q) about
 holds_at q about checks.Free = passes (free_for q) about
+holds_at q about checks.Stays = not (has_to_move q about)
 holds_at q about checks.Held = passes (held_at q) about
 
 -- ---- the rules
@@ -228,7 +259,8 @@ checks_in rules.Select =
     ∷ (checks.Address, ends.Quiet reasons.NoRequested)
     ∷ (checks.Subnet, ends.Quiet reasons.NoSubnet)
     ∷ (checks.Fits, ends.Nak)
-    ∷ (checks.Free, ends.Nak) ∷ []
+    ∷ (checks.Free, ends.Nak)
+    ∷ (checks.Stays, ends.Nak) ∷ []
 checks_in rules.Renew =
     (checks.Server, ends.GiveBack)
     ∷ (checks.Address, ends.Quiet reasons.NoRequested)
@@ -236,7 +268,8 @@ checks_in rules.Renew =
     ∷ (checks.Prefix, ends.Nak)
     ∷ (checks.Client, ends.Quiet reasons.NoRecord)
     ∷ (checks.Owner, ends.Nak)
-    ∷ (checks.Lasts, ends.Nak) ∷ []
+    ∷ (checks.Lasts, ends.Nak)
+    ∷ (checks.Stays, ends.Nak) ∷ []
 checks_in rules.Decline =
     (checks.Server, ends.Quiet reasons.OtherServer)
     ∷ (checks.Address, ends.Quiet reasons.NoRequested)

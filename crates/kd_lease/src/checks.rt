@@ -2,18 +2,18 @@ ghost use Rattle.std.specs.Prelude.{◌≡◌, ◌||◌, Some};
 ghost use Rattle.std.specs.List.{find};
 ghost use Rattle.std.specs.Option.{option_copied};
 ghost use Rattle.kd_config.specs.Networks.{covers};
-ghost use Rattle.kd_lease.specs.Choice.{fitting_for, free_for};
+ghost use Rattle.kd_lease.specs.Choice.{address_reserved, fitting_for, free_for};
 ghost use Rattle.kd_lease.specs.Keeping.{is_record_here, keeper, keeps_it, keeps_pooled};
 ghost use Rattle.kd_lease.specs.Kept.{passes};
-ghost use Rattle.kd_lease.specs.Rules.{asking, client_has, ending, fails, held_at, holds_at, known_in, lasting_for, passes_in, serving_subnet};
+ghost use Rattle.kd_lease.specs.Rules.{asking, awaited_in, client_has, ending, fails, has_to_move, held_at, holds_at, is_awaited, is_unused, known_in, lasting_for, may_be_its, other_than, passes_in, serving_subnet};
 
 use crate::fit::{contains, fits, is_free, lasts};
 use crate::matter::Matter;
 use crate::parts::is_in_part;
 use crate::question::Question;
-use crate::reservation::is_reserved;
+use crate::reservation::{is_reserved, reserved_address, unseen_of};
 use crate::rule::{Check, Ending, Line};
-use crate::search::{is_client_at, is_held_at, knows_client};
+use crate::search::{is_client_at, is_held_at, is_offer, knows_client};
 use crate::server::is_for_another;
 use kd_config::Subnet;
 
@@ -64,6 +64,7 @@ pub fn holds(matter: &Matter<'_>, check: Check) -> bool
         Check::Fits => is_fitting(question, address),
         Check::Lasts => is_lasting(question, address),
         Check::Free => is_free_at(question, address),
+        Check::Stays => !is_to_move(question, address),
         Check::Held => is_held(question, address),
     }
 }
@@ -232,6 +233,75 @@ fn is_free_at(question: &Question<'_>, address: Option<u32>) -> bool
     match address {
         Some(address) => is_free(question, address),
         None => false,
+    }
+}
+
+// Reports whether the client is to move to another address.
+fn is_to_move(question: &Question<'_>, address: Option<u32>) -> bool
+    ensures { result ≡ has_to_move (asking question.now) address }
+{
+    question.config.extensions().moves_clients && is_awaited_elsewhere(question, address)
+}
+
+// Reports whether a subnet serves the message, there is an address, and another one, which nobody uses,
+// is reserved for the client there.
+fn is_awaited_elsewhere(question: &Question<'_>, address: Option<u32>) -> bool
+    ensures { let q = asking question.now in
+        result ≡ passes_in (is_awaited q) (serving_subnet q) address }
+{
+    match (question.subnet, address) {
+        (Some(subnet), Some(address)) => awaits_another(question, subnet, address),
+        _ => false,
+    }
+}
+
+// Reports whether there is an address to which the client is to move in a subnet, and nobody uses it.
+fn awaits_another(question: &Question<'_>, subnet: &Subnet, address: u32) -> bool
+    ensures { result ≡ is_awaited (asking question.now) subnet.now address }
+{
+    match awaited(question, subnet, address) {
+        Some(reserved) => is_vacant(question, reserved),
+        None => false,
+    }
+}
+
+/// Returns the address, in host order, other than this one, that is reserved for the client in a subnet,
+/// unless the client keeps its lease of this one, which may be reserved for it.
+pub fn awaited(question: &Question<'_>, subnet: &Subnet, address: u32) -> Option<u32>
+    ensures { result ≡ awaited_in (asking question.now) subnet.now address }
+{
+    match other_reserved(question, subnet, address) {
+        Some(_) if is_perhaps_its(question, subnet, address) => None,
+        other => other,
+    }
+}
+
+// Reports whether the client keeps its lease of an address whose reservation may be for it.
+fn is_perhaps_its(question: &Question<'_>, subnet: &Subnet, address: u32) -> bool
+    ensures { result ≡ may_be_its (asking question.now) subnet.now address }
+{
+    question.kept.is_some() && unseen_of(question.message, subnet, address).is_some()
+}
+
+// Returns the address that is reserved for the client in a subnet, if it is another one than this.
+fn other_reserved(question: &Question<'_>, subnet: &Subnet, address: u32) -> Option<u32>
+    ensures { let q = asking question.now in
+        result ≡ other_than address (address_reserved q.config q.names q.message subnet.now) }
+{
+    match reserved_address(question.config, question.names, question.message, subnet) {
+        Some(reserved) if reserved != address => Some(reserved),
+        _ => None,
+    }
+}
+
+// Reports whether nobody uses an address: it has no row, or one that has ended, or that of an offer to
+// the client.
+fn is_vacant(question: &Question<'_>, address: u32) -> bool
+    ensures { result ≡ is_unused (asking question.now) address }
+{
+    match question.rows.get(address) {
+        Some(row) => !row.is_live(question.moment) || is_offer(question, address),
+        None => true,
     }
 }
 

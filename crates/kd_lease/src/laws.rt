@@ -1,6 +1,6 @@
 //! What is true of the rules, whatever the program does. Each law is the contract of a function
 //! that does nothing.
-ghost use Rattle.kd_lease.specs.Laws.{EndsAreFounded, EndsDecide, HeldHasNoRank, HeldIsNotGiven, HeldIsNotUsable, KnownByAddress, KnownByMessage, KnownByRecord, NakSetsNone, OneAnswer, OneChange, PlaceByHeader, RenewedByClass, ReservedByList, ServesAlone, ServesByPrefix, SetsNow, StandsAlone, StrangersAreRefused};
+ghost use Rattle.kd_lease.specs.Laws.{ClientsMove, EndsAreFounded, EndsDecide, HeldHasNoRank, HeldIsNotGiven, HeldIsNotUsable, KnownByAddress, KnownByMessage, KnownByRecord, NakSetsNone, NobodyMoves, OneAnswer, OneChange, PlaceByHeader, RenewedByClass, ReservedByList, ServesAlone, ServesByPrefix, SetsNow, StandsAlone, StrangersAreRefused};
 
 /// A row that a message sets has the time of the message as its time of change.
 pub fn sets_now()
@@ -62,6 +62,18 @@ pub fn known_by_message()
 /// a message is the first of the subnet for its client, by the hardware address or by option 61.
 pub fn reserved_by_list()
     ensures { ReservedByList }
+{}
+
+/// Where clients are not to move, an address that is reserved for a client elsewhere refuses it
+/// nothing.
+pub fn nobody_moves()
+    ensures { NobodyMoves }
+{}
+
+/// A client that is to move to the address that is reserved for it can neither get another address by a
+/// REQUEST nor renew it.
+pub fn clients_move()
+    ensures { ClientsMove }
 {}
 
 /// A subnet in no network has the addresses of its prefix, and gives its own options and mask.

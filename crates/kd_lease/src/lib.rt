@@ -50,7 +50,7 @@ mod values;
 mod verdict;
 
 pub use booting::{BootFields, boot_given};
-pub use checks::{ending_of, holds};
+pub use checks::{awaited, ending_of, holds};
 pub use client::asks_for;
 pub use decision::{decide, decide_on};
 pub use effects::effect_of;

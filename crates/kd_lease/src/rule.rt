@@ -31,6 +31,9 @@ pub enum Check {
     Lasts,
     /// The address is free for the client.
     Free,
+    /// No other address, which nobody uses, is reserved for the client: in a configuration in our own
+    /// format this is not asked.
+    Stays,
     /// The client holds the address.
     Held,
 }
@@ -113,6 +116,7 @@ impl Rule {
                 (Check::Subnet, Ending::Quiet(Reason::NoSubnet)),
                 (Check::Fits, Ending::Nak),
                 (Check::Free, Ending::Nak),
+                (Check::Stays, Ending::Nak),
             ],
             Rule::Renew => &[
                 (Check::Server, Ending::GiveBack),
@@ -122,6 +126,7 @@ impl Rule {
                 (Check::Client, Ending::Quiet(Reason::NoRecord)),
                 (Check::Owner, Ending::Nak),
                 (Check::Lasts, Ending::Nak),
+                (Check::Stays, Ending::Nak),
             ],
             Rule::Decline => &[
                 (Check::Server, Ending::Quiet(Reason::OtherServer)),

@@ -245,7 +245,7 @@ pub(crate) fn is_bound_to(rows: &Rows, client: &[u8], moment: u64, address: u32)
 
 // Reports whether an address is offered to the client: its row is the client's, has not ended, and
 // is offered.
-fn is_offer(question: &Question<'_>, address: u32) -> bool
+pub(crate) fn is_offer(question: &Question<'_>, address: u32) -> bool
     ensures { result ≡ offered_to (asking question.now) address }
 {
     match question.rows.get(address) {
