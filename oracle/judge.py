@@ -375,6 +375,22 @@ def is_usable(asked, wanted):
     return fits(asked, wanted) and is_free(asked, wanted)
 
 
+def awaited(asked, wanted):
+    """Another address than this one that is reserved for the client, in a file of Kea's, or None. There is none for a client that
+    keeps its lease of an address which may be reserved for it."""
+    is_perhaps_its = asked.keeps and lasting(asked, wanted) is not None
+    there = reserved(asked) if is_kea(asked.root) and not is_perhaps_its else None
+    return None if there == wanted else there
+
+
+def is_to_move(asked, wanted):
+    """Whether there is such an address, and nobody uses it: it has no row, or one that has ended, or an offer to the client."""
+    there = awaited(asked, wanted)
+    row = None if there is None else row_of(asked, there)
+    is_used = row is not None and is_live(row, asked.now) and not (holds(asked, row) and row.state == "Offered")
+    return there is not None and not is_used
+
+
 def choice(asked):
     """The address for a DISCOVER, from the first of six rules that finds one, or None."""
     fixed = reserved(asked)
@@ -512,7 +528,7 @@ def selecting(asked):
         return "7 NoRequested", None
     if asked.subnet is None:
         return "5 NoSubnet", None
-    if is_usable(asked, wanted):
+    if is_usable(asked, wanted) and not is_to_move(asked, wanted):
         return acknowledged(asked, wanted)
     return Plan("NAK", 0), None
 
@@ -531,7 +547,7 @@ def renewing(asked):
     if not is_known and not asked.root.get("authoritative", False):
         return "9 NoRecord", None
     row = row_of(asked, wanted)
-    if row is not None and row.client == asked.client and lasts(asked, wanted):
+    if row is not None and row.client == asked.client and lasts(asked, wanted) and not is_to_move(asked, wanted):
         return acknowledged(asked, wanted)
     return Plan("NAK", 0), None
 

@@ -2,9 +2,9 @@
 """Explains each event of random histories: whys.py SEED COUNT [--networks] [--program P] [--jobs N]
 
 The histories are those of histories.py, or with --networks those of networks.py. For each event, the explanation of
-`kdhcp replay --why` must end with the line of judge.py, and say why subnets are passed over, whether this server is named and
-whether the address fits as the judge's rules do. For the last event, `kdhcp why` with a store after the events before it must
-print the same explanation, and leave the store's leases unchanged.
+`kdhcp replay --why` must end with the line of judge.py, and say why subnets are passed over, whether this server is named,
+whether the address fits and whether the client stays, as the judge's rules do. For the last event, `kdhcp why` with a store
+after the events before it must print the same explanation, and leave the store's leases unchanged.
 """
 import argparse
 import json
@@ -14,6 +14,7 @@ import random
 import subprocess
 import sys
 import tempfile
+from ipaddress import IPv4Address
 
 import histories
 import judge
@@ -57,10 +58,25 @@ def reserved_words(asked, wanted):
     return "reserved otherwise" if wanted in judge.all_reserved(asked.root) else "not reserved"
 
 
+def wanted_by(asked):
+    """The address that a REQUEST is about."""
+    return judge.requested(asked) if 54 in asked.found else judge.ciaddr(asked) or judge.requested(asked)
+
+
+def stays_lines(asked, lines):
+    """The lines that say whether the client of a REQUEST stays where it is: one if another address is reserved for it, and all
+    other checks are passed."""
+    is_asked = asked.found[53][0] == judge.REQUEST and any(line.startswith(("ends ACK", "check stays: ")) for line in lines)
+    there = judge.awaited(asked, wanted_by(asked)) if is_asked else None
+    if there is None:
+        return []
+    word, use = ("no", "unused") if judge.is_to_move(asked, wanted_by(asked)) else ("yes", "in use")
+    return [f"check stays: {word}, {IPv4Address(there)} is reserved for the client and {use}"]
+
+
 def fits_line(asked):
     """The line that says whether the address of a REQUEST fits."""
-    is_chosen = 54 in asked.found
-    wanted = judge.requested(asked) if is_chosen else judge.ciaddr(asked) or judge.requested(asked)
+    is_chosen, wanted = 54 in asked.found, wanted_by(asked)
     all_pools = [judge.pool(entry["pool"]) for entry in asked.subnet.get("pools", [])]
     is_in, is_given = (any(first <= wanted <= last for first, last in them) for them in (all_pools, judge.pools(asked)))
     is_fit = judge.fits(asked, wanted) if is_chosen else judge.lasts(asked, wanted)
@@ -85,6 +101,7 @@ def is_explained(root, rows, event, lines):
     fits = [line for line in lines if line.startswith("check fits: ")]
     servers = [line for line in lines if line.startswith("check server: ")]
     is_so = all(line == fits_line(asked) for line in fits) and all(line == server_line(asked) for line in servers)
+    is_so = is_so and [line for line in lines if line.startswith("check stays: ")] == stays_lines(asked, lines)
     return over == ([] if asked.keeps else [*passed_over(asked)]) and is_so
 
 
