@@ -16,9 +16,10 @@ use std::alloc::Global;
 /// The longest lease time, in seconds.
 pub const LONGEST: u32 = 2_147_483_647;
 
-/// The usual shares of T1 and T2 in the lifetime (RFC 2131 section 4.4.5).
+/// The usual share of T1 in the lifetime (RFC 2131 section 4.4.5).
 pub const HALF: f64 = 0.5;
 
+/// The usual share of T2 in the lifetime (RFC 2131 section 4.4.5).
 pub const SEVEN_EIGHTHS: f64 = 0.875;
 
 // The bounds of a share.
