@@ -26,3 +26,6 @@ in_order one_end (def ∷ defs) message held names others a b =
 
 pub one_held : HasOneEnd → (message : Seen) (defs : List ClassDef) (names others : List (List ℕ)) → HeldSet message defs names → HeldSet message defs others → names ≡ others
 one_held one_end message defs names others a b = in_order one_end defs message (base_names (value_of 60 message.options)) names others a b
+
+pub one_join : HasOneEnd → (message : Seen) (defs : List ClassDef) (held names others : List (List ℕ)) → JoinInOrder message defs held names → JoinInOrder message defs held others → names ≡ others
+one_join one_end message defs held names others a b = in_order one_end defs message held names others a b

@@ -1,5 +1,5 @@
 ghost use Rattle.std.specs.Prelude.{◌≡◌, IfErr, IfOk, IsOk, length, option_copied, slice_get};
-ghost use Rattle.kd_classes.specs.HeldSet.{HeldSet, Joins};
+ghost use Rattle.kd_classes.specs.HeldSet.{HeldSet, JoinInOrder, Joins};
 ghost use Rattle.kd_classes.specs.Order.{AreInOrder, IsFirstClassFault};
 
 use crate::definition::ClassDef;
@@ -58,10 +58,28 @@ impl Classes {
         ensures { IfOk result (λ names. HeldSet message.now self.now names) }
     {
         let mut names = Held::base(alloc, message)?;
-        'definitions: for definition in &self.definitions {
-            join(alloc, definition, message, &mut names)?;
-        }
+        self.join_all(alloc, message, &mut names)?;
         Ok(names)
+    }
+
+    /// Adds to the names that are held already, in order, the name of each definition whose test is
+    /// true over the names held so far. Allocates memory for the names and for the values of the runs.
+    ///
+    /// # Errors
+    ///
+    /// Out of memory; some names may have been added.
+    pub fn join_all(
+        &self,
+        alloc: Global,
+        message: &Message<'_>,
+        names: &mut Held,
+    ) -> Result<(), AllocError>
+        ensures { IfOk result (λ _. JoinInOrder message.now self.now names.old names.new) }
+    {
+        'definitions: for definition in &self.definitions {
+            join(alloc, definition, message, names)?;
+        }
+        Ok(())
     }
 
     /// Returns the number of definitions, at most 256.

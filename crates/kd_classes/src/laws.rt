@@ -1,6 +1,6 @@
 ghost use Rattle.std.specs.Prelude.{◌≡◌, ℕ, List};
 ghost use Rattle.std.specs.List.{AllByRecursion};
-ghost use Rattle.kd_classes.specs.HeldSet.{HeldSet, IsAccepted};
+ghost use Rattle.kd_classes.specs.HeldSet.{HeldSet, IsAccepted, JoinInOrder};
 ghost use Rattle.kd_classes.specs.Order.{AreInOrder, IsFirstClassFault};
 ghost use Rattle.kd_classes.specs.declared.definition.ClassDef.{ClassDef};
 ghost use Rattle.kd_classes.specs.declared.fault.ClassFault.{ClassFault};
@@ -25,6 +25,15 @@ pub fn accepted_held()
         → (names : List (List ℕ)) × HeldSet message defs names }
 {
     kd_machine::laws::accepted_ends();
+}
+
+/// Definitions join a message with at most one list of names, whatever it holds before them.
+pub fn one_join()
+    ensures { (message : Seen) (defs : List ClassDef) (held names others : List (List ℕ))
+        → JoinInOrder message defs held names → JoinInOrder message defs held others
+        → names ≡ others }
+{
+    kd_machine::laws::one_end();
 }
 
 /// Definitions give a message at most one list of names.

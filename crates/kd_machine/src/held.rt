@@ -1,4 +1,4 @@
-ghost use Rattle.std.specs.Prelude.{◌≡◌, IfOk, OnErr, OnOk, option_copied, slice_get};
+ghost use Rattle.std.specs.Prelude.{◌≡◌, IfOk, OnErr, OnOk, length, option_copied, slice_get};
 ghost use Rattle.std.specs.List.{IsDistinct};
 ghost use Rattle.kd_machine.specs.Held.{base_names, with_name};
 ghost use Rattle.kd_machine.specs.Parts.{is_held, same};
@@ -73,6 +73,13 @@ impl Held {
         ensures { result ≡ is_held name.now self.now }
     {
         self.names.contains(name)
+    }
+
+    /// Returns the number of names.
+    pub fn len(&self) -> usize
+        ensures { result ≡ length self.now }
+    {
+        self.names.len()
     }
 
     /// Returns the name at an index, in the order in which the names were added, if there is one.
