@@ -1,9 +1,10 @@
 -- A server's configuration, and the built-in one.
-use Rattle.std.specs.Prelude.{ℕ, Bool, true, false, List, [], ◌∷◌, None}
+use Rattle.std.specs.Prelude.{ℕ, Bool, true, false, not, List, [], ◌∷◌, None}
 use Rattle.kd_classes.specs.Boot.{no_boot}
 use Rattle.kd_classes.specs.declared.definition.ClassDef.{ClassDef}
 use Rattle.kd_classes.specs.declared.option_list.OptionData.{OptionData}
 use Rattle.kd_config.specs.declared.extensions.Extensions.{Extensions}
+use Rattle.kd_config.specs.declared.extensions.Policy.{Policy}
 use Rattle.kd_config.specs.declared.pool.Pool.{Pool}
 use Rattle.kd_config.specs.declared.reservation.IdentityKind.{IdentityKind}
 use Rattle.kd_config.specs.declared.subnet.Subnet.{Subnet}
@@ -29,21 +30,24 @@ no_extensions =
       moves_clients = false;
       is_authoritative = false;
       ignores_client_ids = false;
+      knows_clients = false;
       identity_order = [];
     }
 
 -- those of a configuration of Kea's are: relays select links and set the server's identifier, clients
--- keep leases and are to move to reserved addresses, and whether the server is authoritative and ignores
--- client identifiers, and the order of the kinds of identities, is as its file says
-abbrev pub kea_extensions : Bool → Bool → List IdentityKind → Extensions
-kea_extensions is_authoritative ignores_client_ids order =
+-- keep leases and are to move to reserved addresses, and whether the server is authoritative, ignores
+-- client identifiers and knows clients by their reservations, and the order of the kinds of identities,
+-- is as its file says
+abbrev pub kea_extensions : Policy → Bool → List IdentityKind → Extensions
+kea_extensions policy knows_clients order =
     record {
       selects_links = true;
       sets_server = true;
       keeps_leases = true;
       moves_clients = true;
-      is_authoritative = is_authoritative;
-      ignores_client_ids = ignores_client_ids;
+      is_authoritative = policy.is_authoritative;
+      ignores_client_ids = not policy.matches_client_ids;
+      knows_clients = knows_clients;
       identity_order = order;
     }
 

@@ -47,6 +47,7 @@ reservation_for classes reservation =
       options = reservation.options;
       boots = reservation.boots;
       classes = reservation.classes ++ classes;
+      joins = reservation.joins;
     }
 
 -- the reservations that a network has of a subnet

@@ -96,6 +96,7 @@ pub(crate) fn reservation_copied(
         options: options_copied(alloc, reservation.options.as_slice())?,
         boots: boots_copied(alloc, reservation.boots.as_slice())?,
         classes: classes_joined(alloc, reservation.classes.as_slice(), classes)?,
+        joins: classes_copied(alloc, reservation.joins.as_slice())?,
     })
 }
 

@@ -5,6 +5,15 @@ use crate::reservation::IdentityKind;
 use kd_wire::Entries;
 use std::alloc::Global;
 
+/// What the file of a server of ISC Kea's says about all clients.
+#[derive(Clone, Copy)]
+pub struct Policy {
+    /// A client of which there is no record gets a NAK.
+    pub is_authoritative: bool,
+    /// A client is known by its identifier, if it sends one.
+    pub matches_client_ids: bool,
+}
+
 /// Rules of ISC Kea that a configuration in our own format does not have.
 #[derive(Drop)]
 pub struct Extensions {
@@ -25,6 +34,9 @@ pub struct Extensions {
     /// A client is known by its hardware, whatever client identifier it sends (Kea Administrator
     /// Reference Manual, Using Client Identifier and Hardware Address).
     pub ignores_client_ids: bool,
+    /// A client is in the classes that its reservation names, and in `KNOWN` if it has a reservation,
+    /// or else in `UNKNOWN` (Kea Administrator Reference Manual, Built-in Client Classes).
+    pub knows_clients: bool,
     /// The kinds of identities by which the reservation of a client is looked for, in this order
     /// (Kea Administrator Reference Manual, Fine Tuning DHCPv4 Host Reservation). If there are none,
     /// it is the first in its subnet.
@@ -43,6 +55,7 @@ impl Extensions {
             moves_clients: false,
             is_authoritative: false,
             ignores_client_ids: false,
+            knows_clients: false,
             identity_order: Entries::own(Vec::new(alloc)),
         }
     }
@@ -50,19 +63,20 @@ impl Extensions {
     /// Returns those of a configuration of Kea's: relays select links and set the server's identifier,
     /// clients keep leases and are to move, and the others are as the file says.
     pub fn of_kea(
-        is_authoritative: bool,
-        ignores_client_ids: bool,
+        policy: Policy,
+        knows_clients: bool,
         identity_order: Entries<IdentityKind>,
     ) -> Extensions
-        ensures { result ≡ kea_extensions is_authoritative ignores_client_ids identity_order }
+        ensures { result ≡ kea_extensions policy knows_clients identity_order }
     {
         Extensions {
             selects_links: true,
             sets_server: true,
             keeps_leases: true,
             moves_clients: true,
-            is_authoritative,
-            ignores_client_ids,
+            is_authoritative: policy.is_authoritative,
+            ignores_client_ids: !policy.matches_client_ids,
+            knows_clients,
             identity_order,
         }
     }

@@ -30,7 +30,7 @@ mod times;
 pub use classed::admits;
 pub use config::Config;
 pub use copies::{classes_copied, classes_joined, classes_of, options_copied};
-pub use extensions::Extensions;
+pub use extensions::{Extensions, Policy};
 pub use kd_wire::Entries;
 pub use pool::Pool;
 pub use prefix::Prefix;

@@ -40,4 +40,7 @@ pub struct Reservation {
     pub boots: BootList,
     /// The classes that the client must be in, each of them; there may be none.
     pub classes: Entries<Bytes>,
+    /// The classes that the client is in because of the reservation; there may be none (Kea
+    /// Administrator Reference Manual, Reserving Client Classes in DHCPv4).
+    pub joins: Entries<Bytes>,
 }

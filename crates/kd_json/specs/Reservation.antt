@@ -34,4 +34,4 @@ reservation_of d = do
   _ ← must (has_reservation_keys d)
   identity ← identity_given d
   address ← get (codes "ip-address") d >>= address_given
-  Some (record { identity = identity; address = Some address; options = []; boots = []; classes = [] })
+  Some (record { identity = identity; address = Some address; options = []; boots = []; classes = []; joins = [] })

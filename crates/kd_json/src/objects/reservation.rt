@@ -39,6 +39,7 @@ impl EntryReader for ReservationReader {
                 options: OptionList::own(Vec::new(alloc)),
                 boots: BootList::own(Vec::new(alloc)),
                 classes: Entries::own(Vec::new(alloc)),
+                joins: Entries::own(Vec::new(alloc)),
             }),
             None => Err(bad_value(alloc, at, "ip-address")),
         }
