@@ -65,13 +65,6 @@ module _ {X : Type 0} (line : X → List ℕ) where
       let next : suc i + 1 ≡ suc (i + 1) = omega arith in
       rw next (ap (λ t. line y ++ t) (entry_more list i x at) ∙ sym (append_assoc (line y) (flat_map line (take i list)) (line x)))
 
--- after the last entry there are all
-pub all_taken : {X : Type 0} (list : List X) (i : ℕ) → None ≡ slice_get list i → take i list ≡ list
-all_taken [] zero at = refl
-all_taken [] (suc i) at = refl
-all_taken (y ∷ list) zero at = absurd (true≢false (ap is_some (sym at)))
-all_taken (y ∷ list) (suc i) at = ap (λ t. y ∷ t) (all_taken list i at)
-
 -- the remaining options, after the lines so far
 abbrev pub Leads : (Item → List ℕ → Type 0) → List Item → List ℕ → List Item → Type 0
 Leads Line items text left = (rest : List ℕ) → AreOptionLines Line left rest → AreOptionLines Line items (text ++ rest)

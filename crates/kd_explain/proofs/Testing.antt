@@ -1,12 +1,10 @@
 -- Classes that are tested in order add to the names held.
-use Rattle.std.proofs.Common.{◌≡◌, ℕ, ◌+◌, ◌≤◌, List, [], ◌∷◌, ◌++◌, length, drop, Option, Some, None, refl, sym, ap, ◌∙◌, subst, append_assoc, append-nil, arith, length-append, Bool, true, false, if◌then◌else◌}
+use Rattle.std.proofs.Common.{◌≡◌, ℕ, ◌+◌, ◌≤◌, List, [], ◌∷◌, ◌++◌, length, drop, Option, Some, None, refl, sym, ap, ◌∙◌, subst, append_assoc, append-nil}
 use Rattle.std.specs.Prelude.{slice_get}
 use Rattle.std.proofs.lemmas.List.{at_drop_all, drop_more}
 use Rattle.std.proofs.lemmas.Option.{get_or_from_slice_get, slice_get_within}
 use Rattle.kd_classes.specs.HeldSet.{JoinInOrder, JoinsBy}
 use Rattle.kd_classes.specs.declared.definition.ClassDef.{ClassDef}
-use Rattle.kd_machine.specs.Held.{base_names, with_name}
-use Rattle.kd_machine.specs.Parts.{is_held}
 use Rattle.kd_machine.specs.declared.run.Outcome.{Outcome}
 use Rattle.kd_options.specs.Message.{Seen}
 use Rattle.kd_token.specs.File.{Code}
@@ -30,40 +28,6 @@ joined m [] held (outcome ∷ list) names t = absurd t
 joined m (class ∷ classes) held [] names t = absurd t
 joined m (class ∷ classes) held (outcome ∷ list) names t =
     (t.0, joins_by class.test m class.name held outcome t.0 t.1, joined m classes t.0 list names t.2)
-
-few_with : (name : List ℕ) (held : List (List ℕ)) → length (with_name name held) ≤ length held + 1
-few_with name held = by (is_held name held) where
-  by : (b : Bool) → length (if b then held else held ++ name ∷ []) ≤ length held + 1
-  by true = omega arith
-  by false = let grown = length-append held (name ∷ []) in omega (arith, grown)
-
-few_by : (test : Option Code) (m : Seen) (name : List ℕ) (held : List (List ℕ)) (outcome : Option Outcome) (more : List (List ℕ))
-    → IsTestedBy test m name held outcome more → length more ≤ length held + 1
-few_by None m name held None more t = let same = ap length t in omega (arith, same)
-few_by None m name held (Some outcome) more t = absurd t
-few_by (Some program) m name held None more t = absurd t
-few_by (Some program) m name held (Some outcome) more t = by outcome.value t.1 where
-  by : (b : Bool) → more ≡ (if b then with_name name held else held) → length more ≤ length held + 1
-  by true is = let same = ap length is in omega (arith, same, few_with name held)
-  by false is = let same = ap length is in omega (arith, same)
-
--- each class adds at most one name
-few_joined : (m : Seen) (classes : List ClassDef) (held : List (List ℕ)) (list : List (Option Outcome)) (names : List (List ℕ))
-    → AreTested m classes held list names → length names ≤ length held + length classes
-few_joined m [] held [] names t = let same = ap length t in omega (arith, same)
-few_joined m [] held (outcome ∷ list) names t = absurd t
-few_joined m (class ∷ classes) held [] names t = absurd t
-few_joined m (class ∷ classes) held (outcome ∷ list) names t =
-    omega (arith, few_by class.test m class.name held outcome t.0 t.1, few_joined m classes t.0 list names t.2)
-
-few_base : (option : Option (List ℕ)) → length (base_names option) ≤ 2
-few_base None = omega arith
-few_base (Some class) = omega arith
-
--- so a message has few names
-pub few_names : (m : Seen) (classes : List ClassDef) (option : Option (List ℕ)) (list : List (Option Outcome)) (names : List (List ℕ))
-    → AreTested m classes (base_names option) list names → length classes ≤ 256 → length names ≤ 258
-few_names m classes option list names t few = omega (arith, few_joined m classes (base_names option) list names t, few_base option)
 
 -- the remaining classes, after the outcomes so far
 abbrev pub Leads : Seen → List ClassDef → List (List ℕ) → List (Option Outcome) → List (List ℕ) → List ClassDef → Type 0

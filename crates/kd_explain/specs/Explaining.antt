@@ -1,7 +1,6 @@
 -- The explanation of a message: each part as the rules of leases and of classes define it.
 use Rattle.std.specs.Prelude.{◌≡◌, ℕ, List, Option, None, Some, option_copied}
 use Rattle.std.specs.Option.{option_or}
-use Rattle.kd_classes.specs.HeldSet.{HeldSet}
 use Rattle.kd_config.specs.Configuration.{Configuration}
 use Rattle.kd_config.specs.declared.reservation.Reservation.{Reservation}
 use Rattle.kd_config.specs.declared.subnet.Subnet.{Subnet}
@@ -9,12 +8,10 @@ use Rattle.kd_lease.specs.Change.{Decides, asked_for}
 use Rattle.kd_lease.specs.Choice.{Asking, client_reservation}
 use Rattle.kd_lease.specs.Client.{identity_under}
 use Rattle.kd_lease.specs.Decided.{IsAnswerTo, outcome_in}
-use Rattle.kd_lease.specs.Kept.{kept_in}
+use Rattle.kd_lease.specs.Membership.{InClasses, StartsWith, kept_for}
 use Rattle.kd_lease.specs.Ranks.{AreRanks}
 use Rattle.kd_lease.specs.SubnetOf.{subnet_serving}
 use Rattle.kd_lease.specs.declared.ranks.Ranks.{Ranks}
-use Rattle.kd_machine.specs.Held.{base_names}
-use Rattle.kd_options.specs.Joined.{value_of}
 use Rattle.kd_options.specs.Message.{Seen}
 use Rattle.kd_rows.specs.declared.row.Row.{Row}
 use Rattle.kd_explain.specs.Testing.{AreTested}
@@ -36,20 +33,15 @@ abbrev pub AreFoundFor : Option (List ℕ) → (List ℕ → Asking) → Option 
 AreFoundFor None asks s found = found ≡ None
 AreFoundFor (Some client) asks s found = AreFoundIn (asks client) s found
 
--- the subnet in which a client keeps the lease that it renews, if the message has a client that
--- does
-abbrev pub kept_for : Option (List ℕ) → Configuration → List Row → Seen → ℕ → Option Subnet
-kept_for None config rows m now = None
-kept_for (Some client) config rows m now = kept_in config rows m now client
-
 -- an explanation of a message at a time, over a configuration and rows: its parts are those of the
 -- rules
 pub record Explains (config : Configuration) (rows : List Row) (m : Seen) (now : ℕ)
     (e : Explanation) : Type 0 where
   pub client : e.client ≡ identity_under config m
-  pub tested : AreTested m config.classes (base_names (value_of 60 m.options)) e.outcomes.items
-      e.names
-  pub held : HeldSet m config.classes e.names
+  pub start : List (List ℕ)
+  pub starts : StartsWith config rows m now start
+  pub tested : AreTested m config.classes start e.outcomes.items e.names
+  pub held : InClasses config rows m now e.names
   pub kept : option_copied e.kept ≡ kept_for (identity_under config m) config rows m now
   pub subnet : option_copied e.subnet
       ≡ option_or (option_copied e.kept) (subnet_serving config e.names m)

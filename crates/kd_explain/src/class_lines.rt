@@ -1,4 +1,4 @@
-ghost use Rattle.std.specs.Prelude.{◌≡◌, ◌++◌, ◌≤◌, OnOk, codes, decimal, drop, length, string_bytes};
+ghost use Rattle.std.specs.Prelude.{◌≡◌, ◌++◌, OnOk, codes, decimal, drop, string_bytes};
 ghost use Rattle.std.specs.List.{flat_map};
 ghost use Rattle.kd_explain.specs.FoundLines.{tested_line, class_lines, first_outcome, name_behind, names_line, outcome_words};
 ghost use Rattle.kd_explain.specs.Words.{truth_word};
@@ -10,13 +10,9 @@ use kd_machine::{Held, Outcome};
 use std::alloc::{AllocError, Global};
 use std::fmt::Write;
 
-// The most names that a message can have: two that no class gives, and those of 256 classes.
-const MOST_NAMES: usize = 258;
-
 // Prints a line for each class of the configuration, and one with the names of all classes that the
 // message is in.
 pub(crate) fn put_classes(out: &mut String, scene: &Scene<'_>) -> Result<(), AllocError>
-    requires { length scene.now.explanation.now.names ≤ 258 }
     ensures { OnOk result (string_bytes out.new ≡ string_bytes out.old
         ++ (class_lines scene.now.config.now.classes scene.now.explanation.now.outcomes.items
         ++ names_line scene.now.explanation.now.names)) }
@@ -96,7 +92,6 @@ fn put_value(out: &mut String, value: bool, steps: u32) -> Result<(), AllocError
 // Prints the line of the names of classes.
 #[tactic(auto, unfolding(crate::specs::FoundLines::names_line))]
 fn put_names(alloc: Global, out: &mut String, names: &Held) -> Result<(), AllocError>
-    requires { length names.now ≤ 258 }
     ensures { OnOk result (string_bytes out.new ≡ string_bytes out.old ++ names_line names.now) }
 {
     out.push_str("classes")?;
@@ -106,14 +101,13 @@ fn put_names(alloc: Global, out: &mut String, names: &Held) -> Result<(), AllocE
 
 // Prints the names, each after a space.
 fn put_names_behind(alloc: Global, out: &mut String, names: &Held) -> Result<(), AllocError>
-    requires { length names.now ≤ 258 }
     ensures { OnOk result (string_bytes out.new ≡ string_bytes out.old
         ++ flat_map name_behind names.now) }
 {
-    for index in 0..MOST_NAMES {
+    for index in 0..names.len() {
         match names.name_at(index) {
             Some(name) => put_name_behind(alloc, out, name)?,
-            None => return Ok(()),
+            None => unreachable!(),
         }
     }
     Ok(())

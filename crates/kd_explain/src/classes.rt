@@ -1,7 +1,5 @@
-ghost use Rattle.std.specs.Prelude.{◌≡◌, ◌≤◌, IfOk, length};
-ghost use Rattle.kd_classes.specs.HeldSet.{HeldSet};
-ghost use Rattle.kd_machine.specs.Held.{base_names};
-ghost use Rattle.kd_options.specs.Joined.{value_of};
+ghost use Rattle.std.specs.Prelude.{IfOk};
+ghost use Rattle.kd_classes.specs.HeldSet.{JoinInOrder};
 ghost use Rattle.kd_explain.specs.Testing.{AreTested, IsTested};
 
 use kd_classes::{ClassDef, Classes};
@@ -18,8 +16,9 @@ pub struct Trace {
     pub names: Held,
 }
 
-/// Tests the classes in order, each with the names of the classes before it that the message is in
-/// (Kea Administrator Reference Manual, chapter Client Classification).
+/// Tests the classes in order, each with the names that the message has before any test and those of
+/// the classes before it that the message is in (Kea Administrator Reference Manual, chapter Client
+/// Classification).
 ///
 /// # Errors
 ///
@@ -28,13 +27,13 @@ pub fn trace_classes(
     alloc: Global,
     classes: &Classes,
     message: &Message<'_>,
+    start: Held,
 ) -> Result<Trace, AllocError>
-    ensures tested { IfOk result (λ t. AreTested message.now classes.now
-        (base_names (value_of 60 message.now.options)) t.outcomes.items t.names) }
-    ensures held { IfOk result (λ t. HeldSet message.now classes.now t.names) }
-    ensures few { IfOk result (λ t. length t.names ≤ 258) }
+    ensures tested { IfOk result
+        (λ t. AreTested message.now classes.now start t.outcomes.items t.names) }
+    ensures joined { IfOk result (λ t. JoinInOrder message.now classes.now start t.names) }
 {
-    let mut names = Held::base(alloc, message)?;
+    let mut names = start;
     let mut outcomes = Vec::new(alloc);
     for i in 0..classes.len() {
         match classes.def_at(i) {

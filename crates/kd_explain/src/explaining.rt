@@ -1,13 +1,13 @@
-ghost use Rattle.std.specs.Prelude.{◌≡◌, ◌<◌, ◌≤◌, ◌^◌, IfOk, None, length, option_copied};
+ghost use Rattle.std.specs.Prelude.{◌≡◌, ◌<◌, ◌^◌, IfOk, None, option_copied};
 ghost use Rattle.kd_lease.specs.Change.{asked_for};
 ghost use Rattle.kd_lease.specs.Rules.{asking};
-ghost use Rattle.kd_explain.specs.Explaining.{AreFoundFor, AreFoundIn, Explains, IsReservedIn, kept_for};
+ghost use Rattle.kd_explain.specs.Explaining.{AreFoundFor, AreFoundIn, Explains, IsReservedIn};
 
 use crate::classes::{Trace, trace_classes};
 use kd_config::{Config, Reservation, Subnet};
 use kd_lease::{
-    Decision, Ground, Question, Ranks, decide, identity_for, ranks_of, reservation_of, subnet_kept,
-    subnet_or,
+    Decision, Ground, Question, Ranks, decide, identity_for, names_before, ranks_of,
+    reservation_of, subnet_kept_for, subnet_or,
 };
 use kd_machine::{Held, Outcome};
 use kd_options::Message;
@@ -51,11 +51,12 @@ pub fn explain<'a>(
 ) -> Result<Explanation<'a>, AllocError>
     requires { moment < 2 ^ 40 }
     ensures explains { IfOk result (Explains config.now rows.now.rows message.now moment) }
-    ensures few { IfOk result (λ e. length e.names ≤ 258) }
 {
-    let Trace { outcomes, names } = trace_classes(alloc, config.classes(), message)?;
+    let over = Ground::of(config, rows);
+    let start = names_before(alloc, over, message, moment)?;
+    let Trace { outcomes, names } = trace_classes(alloc, config.classes(), message, start)?;
     let client = identity_for(alloc, config, message)?;
-    let kept = subnet_kept_for(Ground::of(config, rows), message, &client, moment);
+    let kept = subnet_kept_for(over, message, &client, moment);
     let subnet = subnet_or(kept, config, &names, message);
     let reservation = reservation_in(config, &names, message, subnet);
     let asked = Asked {
@@ -76,23 +77,6 @@ pub fn explain<'a>(
         ranks,
         decision,
     })
-}
-
-// Returns the subnet in which a client keeps the lease that it renews, if the message has a client
-// that does.
-fn subnet_kept_for<'a>(
-    over: Ground<'a>,
-    message: &Message<'_>,
-    client: &Option<Bytes>,
-    moment: u64,
-) -> Option<&'a Subnet>
-    ensures { option_copied result ≡ kept_for client.now over.entry.config.now
-        over.entry.rows.now.rows message.now moment }
-{
-    match client {
-        Some(client) => subnet_kept(over, message, client.as_slice(), moment),
-        None => None,
-    }
 }
 
 // Returns the reservation for the client of a message in a subnet, if there is one.

@@ -29,7 +29,6 @@ pub(crate) struct Scene<'a> {
 
 // Returns the lines of an explanation.
 pub(crate) fn explanation_text(scene: &Scene<'_>) -> Result<String, AllocError>
-    requires { length scene.now.explanation.now.names ≤ 258 }
     ensures { IfOk result (λ text. IsTextOf scene.now.config.now scene.now.rows.now.rows
         scene.now.message.now scene.now.moment scene.now.explanation.now (string_bytes text)) }
 {
@@ -41,7 +40,6 @@ pub(crate) fn explanation_text(scene: &Scene<'_>) -> Result<String, AllocError>
 // Prints the lines of an explanation: what the message is, what is found for it, what is checked,
 // and how it ends.
 fn put_explanation(out: &mut String, scene: &Scene<'_>) -> Result<(), AllocError>
-    requires { length scene.now.explanation.now.names ≤ 258 }
     ensures { OnOk result ((text : List ℕ)
         × IsTextOf scene.now.config.now scene.now.rows.now.rows scene.now.message.now
         scene.now.moment scene.now.explanation.now text
@@ -58,7 +56,6 @@ fn put_explanation(out: &mut String, scene: &Scene<'_>) -> Result<(), AllocError
 // ranks.
 #[tactic(auto, unfolding(crate::specs::FoundLines::found_text))]
 fn put_found(out: &mut String, scene: &Scene<'_>) -> Result<(), AllocError>
-    requires { length scene.now.explanation.now.names ≤ 258 }
     ensures { OnOk result (string_bytes out.new ≡ string_bytes out.old
         ++ found_text scene.now.config.now scene.now.message.now scene.now.moment
         scene.now.explanation.now) }

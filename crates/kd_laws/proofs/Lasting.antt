@@ -11,10 +11,10 @@ use Rattle.kd_config.specs.Networks.{network_of}
 use Rattle.kd_config.specs.declared.subnet.Subnet.{Subnet}
 use Rattle.kd_config.specs.declared.times.Times.{Times}
 use Rattle.kd_lease.proofs.Served.{at_part, at_serving}
-use Rattle.kd_lease.proofs.Single.{OneHeld}
 use Rattle.kd_lease.proofs.Lifetimes.{granted_each}
 use Rattle.kd_lease.specs.Change.{asked_for}
 use Rattle.kd_lease.specs.Choice.{Asking}
+use Rattle.kd_lease.specs.Laws.{OneMembership}
 use Rattle.kd_lease.specs.Plan.{Outcome}
 use Rattle.kd_lease.specs.Plan.Outcome.{planned}
 use Rattle.kd_lease.specs.Rules.{granted_times, serving_subnet}
@@ -26,10 +26,10 @@ use Rattle.kd_laws.specs.Granted.{AreGranted, IsNoShorter, LeasesLastAlike, None
 use Rattle.kd_laws.specs.NoOverlap.{Happens, LastsFor, LeasesLast, now_of}
 
 -- the times that are granted are determined
-pub granted_once : OneHeld → (config : Configuration) (rows : List Row) (m : Seen) (now a : ℕ) (times others : Times)
+pub granted_once : OneMembership → (config : Configuration) (rows : List Row) (m : Seen) (now a : ℕ) (times others : Times)
     → AreGranted config rows m now a times → AreGranted config rows m now a others → times ≡ others
 granted_once one config rows m now a times others g h =
-    let names : g.names ≡ h.names = one m config.classes g.names h.names g.held h.held in
+    let names : g.names ≡ h.names = one config rows m now g.names h.names g.held h.held in
     let client : g.client ≡ h.client = same_Some g.client h.client (sym g.by ∙ h.by) in
     g.are
     ∙ ap (λ (n : List (List ℕ)). granted_times (asked_for config rows n m now g.client) a) names

@@ -11,13 +11,12 @@ use Rattle.kd_event.specs.declared.reason.Reason.{Reason}
 use Rattle.kd_lease.specs.Change.{after, asked_for}
 use Rattle.kd_lease.specs.Choice.{Asking, live_row}
 use Rattle.kd_lease.specs.Client.{identity_under}
-use Rattle.kd_lease.specs.Laws.{EndsAreFounded, HeldHasNoRank, HeldIsNotGiven, HeldIsNotUsable, SetsNow}
+use Rattle.kd_lease.specs.Laws.{EndsAreFounded, HeldHasNoRank, HeldIsNotGiven, HeldIsNotUsable, OneMembership, SetsNow}
 use Rattle.kd_lease.specs.Plan.{Content, Outcome}
 use Rattle.kd_lease.specs.Plan.Outcome.{planned, quiet}
 use Rattle.kd_lease.specs.Kept.{bound_state}
 use Rattle.kd_lease.specs.Rules.{Sets, granted_times, leased_row}
 use Rattle.kd_lease.specs.declared.plan.PlanKind.TheVariants as kinds
-use Rattle.kd_lease.proofs.Single.{OneHeld}
 use Rattle.kd_options.specs.Kind.{type_number}
 use Rattle.kd_options.specs.declared.kind.MessageType.{MessageType}
 use Rattle.kd_options.specs.declared.kind.MessageType.TheVariants as types
@@ -115,7 +114,7 @@ next e es j client a start since time less moment later shorter (inl g) = inl (n
 next e es j client a start since time less moment later shorter (inr g) = inr (next_shortened e es j client a start since time less moment later shorter g)
 
 -- given the laws of rows and of the rules
-module _ (get_of_set : GetOfSet) (latest_of_set : LatestOfSet) (sets_now : SetsNow) (founded : EndsAreFounded) (no_rank : HeldHasNoRank) (not_usable : HeldIsNotUsable) (not_given : HeldIsNotGiven) (one_held : OneHeld) where
+module _ (get_of_set : GetOfSet) (latest_of_set : LatestOfSet) (sets_now : SetsNow) (founded : EndsAreFounded) (no_rank : HeldHasNoRank) (not_usable : HeldIsNotUsable) (not_given : HeldIsNotGiven) (one_membership : OneMembership) where
   -- what is read at the address of a row that is set, and elsewhere
   read_here : (row : Row) (rows : List Row) (a : ℕ) → (row.address == a) ≡ true → row_at (with_row row rows) a ≡ Some row
   read_here row rows a e = get_of_set row rows a ∙ ap (λ (b : Bool). if b then Some row else row_at rows a) e
@@ -266,7 +265,7 @@ module _ (get_of_set : GetOfSet) (latest_of_set : LatestOfSet) (sets_now : SetsN
         let q = asked_for e.config e.before c.names e.message (now_of e) r.client in
         let is : c.set ≡ Some (leased_row q a) = acked q r.does.type c.set a l.content r.does.sets in
         let becomes : e.after ≡ with_row (leased_row q a) e.before = c.becomes ∙ ap (after e.before) is in
-        let same = granted_once one_held e.config e.before e.message (now_of e) a (granted_times q a) lasts.times
+        let same = granted_once one_membership e.config e.before e.message (now_of e) a (granted_times q a) lasts.times
         (record { names = c.names; held = c.held; client = r.client; by = r.by; are = refl }) lasts.granted in
         subst (λ (rows : List Row). IsSafe rows a client (now_of e) seconds) (sym becomes)
         (subst (λ (time : ℕ). IsSafe (with_row (leased_row q a) q.rows) a client q.now time) (ap (λ (times : Times). times.lifetime) same ∙ sym lasts.is)

@@ -2,7 +2,6 @@
 -- (RFC 2131 section 3.3; Kea Administrator Reference Manual, section Lease Lifetimes).
 use Rattle.std.specs.Prelude.{◌≡◌, ℕ, ◌≤◌, List, None, Some, IfSome}
 use Rattle.std.specs.List.{AllByRecursion}
-use Rattle.kd_classes.specs.HeldSet.{HeldSet}
 use Rattle.kd_classes.specs.declared.definition.ClassDef.{ClassDef}
 use Rattle.kd_classes.specs.declared.lifetime.Lifetime.{Lifetime}
 use Rattle.kd_config.specs.Configuration.{Configuration}
@@ -11,6 +10,7 @@ use Rattle.kd_config.specs.declared.times.Times.{Times}
 use Rattle.kd_lease.specs.Change.{asked_for}
 use Rattle.kd_lease.specs.Choice.{Asking}
 use Rattle.kd_lease.specs.Client.{identity_under}
+use Rattle.kd_lease.specs.Membership.{InClasses}
 use Rattle.kd_lease.specs.Rules.{granted_times}
 use Rattle.kd_options.specs.Message.{Seen}
 use Rattle.kd_rows.specs.declared.row.Row.{Row}
@@ -20,7 +20,7 @@ use Rattle.kd_rows.specs.declared.row.Row.{Row}
 pub record AreGranted (config : Configuration) (rows : List Row) (m : Seen) (now a : ℕ)
     (times : Times) : Type 0 where
   pub names : List (List ℕ)
-  pub held : HeldSet m config.classes names
+  pub held : InClasses config rows m now names
   pub client : List ℕ
   pub by : identity_under config m ≡ Some client
   pub are : times ≡ granted_times (asked_for config rows names m now client) a

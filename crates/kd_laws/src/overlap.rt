@@ -22,7 +22,7 @@ pub fn no_overlap_across()
     kd_lease::laws::held_has_no_rank();
     kd_lease::laws::held_is_not_usable();
     kd_lease::laws::held_is_not_given();
-    kd_classes::laws::one_held();
+    kd_lease::laws::one_membership();
 }
 
 /// If the client never renews its lease for fewer seconds, the other client comes no earlier than the

@@ -3,8 +3,9 @@
 use Rattle.std.proofs.Common.{◌≡◌, ℕ, ◌≤◌, ◌==◌, ◌&&◌, ◌||◌, nat_lt, Bool, true, false, codes, List, Option, Some, None, IsSomeAnd, option_map, refl, sym, ap, ◌∙◌, subst, arith, if◌then◌else◌}
 use Rattle.std.proofs.lemmas.Bool.{and_parts, eqb-true, false≢true}
 use Rattle.std.proofs.lemmas.Bool.Decides.{nat_tests}
-use Rattle.kd_classes.specs.HeldSet.{HeldSet}
+use Rattle.kd_classes.specs.HeldSet.{HeldSet, JoinInOrder}
 use Rattle.kd_classes.specs.declared.definition.ClassDef.{ClassDef}
+use Rattle.kd_config.specs.Configuration.{Configuration}
 use Rattle.kd_config.specs.declared.subnet.Subnet.{Subnet}
 use Rattle.kd_event.specs.declared.reason.Reason.{Reason}
 use Rattle.kd_event.specs.declared.reason.Reason.TheVariants as reasons
@@ -13,7 +14,8 @@ use Rattle.kd_lease.specs.Change.{AnswersTo, Decides, ForClient, HasReplyContent
 use Rattle.kd_lease.specs.Choice.{Asking, Choice, IsFirstOf, Rank, address_reserved, changed_in, free_for, pool_place, place, same_address, set_later, usable}
 use Rattle.kd_lease.specs.Choice.Rank.{asked, expired, fresh, own, past, reserved}
 use Rattle.kd_lease.specs.Client.{identity_under, reply_room, requested_address, server_message}
-use Rattle.kd_lease.specs.Laws.{EndsDecide, OneAnswer, OneChange}
+use Rattle.kd_lease.specs.Laws.{ClassesByTests, EndsDecide, OneAnswer, OneChange, OneMembership}
+use Rattle.kd_lease.specs.Membership.{InClasses, StartsBy, counting_in, subnet_for, with_client}
 use Rattle.kd_lease.specs.Plan.{Outcome}
 use Rattle.kd_lease.specs.Plan.Outcome.{planned, quiet}
 use Rattle.kd_lease.specs.ReplyOptions.{reply_content}
@@ -24,7 +26,9 @@ use Rattle.kd_lease.specs.declared.rule.Ending.{Ending}
 use Rattle.kd_lease.specs.declared.rule.Ending.TheVariants as ends
 use Rattle.kd_lease.specs.declared.rule.Rule.{Rule}
 use Rattle.kd_lease.specs.declared.rule.Rule.TheVariants as rules
+use Rattle.kd_machine.specs.Held.{base_names}
 use Rattle.kd_machine.specs.Parts.{is_held}
+use Rattle.kd_options.specs.Joined.{value_of}
 use Rattle.kd_options.specs.Kind.{type_number}
 use Rattle.kd_options.specs.Message.{Seen}
 use Rattle.kd_options.specs.declared.kind.MessageType.{MessageType}
@@ -244,14 +248,41 @@ one_answer config rows names m now set other got its h k =
       served : List ℕ → Option Row → Outcome → Type 0
       served client = Unless (is_held (codes "DROP") names) reasons.DropClass (AnswersTo (asked_for config rows names m now client))
 
+-- names are joined by classes in at most one way
+abbrev pub OneJoin : Type 0
+OneJoin = (m : Seen) (defs : List ClassDef) (held names others : List (List ℕ)) → JoinInOrder m defs held names → JoinInOrder m defs held others → names ≡ others
+
+one_start : OneJoin → (known : Bool) (config : Configuration) (rows : List Row) (m : Seen) (now : ℕ) (start other : List (List ℕ)) → StartsBy known config rows m now start → StartsBy known config rows m now other → start ≡ other
+one_start one false config rows m now start other a b = a ∙ sym b
+one_start one true config rows m now start other a b =
+    let base = base_names (value_of 60 m.options) in
+    let same : a.0 ≡ b.0 = one m config.classes base a.0 b.0 a.1 b.1 in
+    a.2 ∙ ap (λ (names : List (List ℕ)). with_client (counting_in config names m (subnet_for config rows names m now)) base) same ∙ sym b.2
+
 -- a message has at most one list of names
-abbrev pub OneHeld : Type 0
-OneHeld = (m : Seen) (defs : List ClassDef) (names others : List (List ℕ)) → HeldSet m defs names → HeldSet m defs others → names ≡ others
+pub one_membership : OneJoin → OneMembership
+one_membership one config rows m now names others a b =
+    let same : a.start ≡ b.start = one_start one config.extensions.knows_clients config rows m now a.start b.start a.starts b.starts in
+    one m config.classes b.start names others (subst (λ (start : List (List ℕ)). JoinInOrder m config.classes start names) same a.joined) b.joined
+
+-- where clients are not known by their reservations, it is that of the tests alone
+pub classes_by_tests : ClassesByTests
+classes_by_tests config rows m now names none = (tested, joined) where
+  base : List (List ℕ)
+  base = base_names (value_of 60 m.options)
+
+  tested : InClasses config rows m now names → HeldSet m config.classes names
+  tested is =
+      let start : is.start ≡ base = subst (λ (known : Bool). StartsBy known config rows m now is.start) none is.starts in
+      subst (λ (start : List (List ℕ)). JoinInOrder m config.classes start names) start is.joined
+
+  joined : HeldSet m config.classes names → InClasses config rows m now names
+  joined held = record { start = base; starts = subst (λ (known : Bool). StartsBy known config rows m now base) (sym none) refl; joined = held }
 
 -- so a table is changed to at most one table
-pub one_change : OneAnswer → OneHeld → OneChange
+pub one_change : OneAnswer → OneMembership → OneChange
 one_change answer held config rows m now new other got its h k =
-    let names : h.names ≡ k.names = held m config.classes h.names k.names h.held k.held in
+    let names : h.names ≡ k.names = held config rows m now h.names k.names h.held k.held in
     let decides : Decides config rows k.names m now h.set got = subst (λ (list : List (List ℕ)). Decides config rows list m now h.set got) names h.decides in
     let same = answer config rows k.names m now h.set k.set got its decides k.decides in
     (h.becomes ∙ ap (after rows) same.0 ∙ sym k.becomes, same.1)

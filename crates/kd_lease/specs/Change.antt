@@ -2,7 +2,6 @@
 -- any, and what the message gets. The rules determine both; a reply whose mandatory options do not
 -- fit is not sent, and then no row is set (our choice).
 use Rattle.std.specs.Prelude.{◌≡◌, ℕ, Bool, true, false, List, Option, Some, None, codes}
-use Rattle.kd_classes.specs.HeldSet.{HeldSet}
 use Rattle.kd_config.specs.Configuration.{Configuration}
 use Rattle.kd_event.specs.declared.reason.Reason.{Reason}
 use Rattle.kd_event.specs.declared.reason.Reason.TheVariants as reasons
@@ -12,6 +11,7 @@ use Rattle.kd_rows.specs.Table.{with_row}
 use Rattle.kd_rows.specs.declared.row.Row.{Row}
 use Rattle.kd_lease.specs.Choice.{Asking}
 use Rattle.kd_lease.specs.Client.{identity_under, server_message, reply_room}
+use Rattle.kd_lease.specs.Membership.{InClasses}
 use Rattle.kd_lease.specs.Plan.{Outcome}
 use Rattle.kd_lease.specs.Plan.Outcome.{planned, quiet}
 use Rattle.kd_lease.specs.ReplyOf.{within_room}
@@ -78,7 +78,7 @@ after rows (Some row) = with_row row rows
 pub record Changes (config : Configuration) (old : List Row) (m : Seen) (now : ℕ) (new : List Row)
     (outcome : Outcome) : Type 0 where
   pub names : List (List ℕ)
-  pub held : HeldSet m config.classes names
+  pub held : InClasses config old m now names
   pub set : Option Row
   pub decides : Decides config old names m now set outcome
   pub becomes : new ≡ after old set

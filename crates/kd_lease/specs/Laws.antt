@@ -1,6 +1,7 @@
 -- What is true of the rules for every configuration, table, message and time.
 use Rattle.std.specs.Prelude.{◌≡◌, ◌≢◌, ℕ, true, false, not, ◌&&◌, ◌==◌, ◌⊎◌, List, [], Option, Some, None, option_map, IsSomeAnd, is_some}
 use Rattle.std.specs.List.{AllByRecursion, find}
+use Rattle.kd_classes.specs.HeldSet.{HeldSet}
 use Rattle.kd_config.specs.Address.{has_address}
 use Rattle.kd_config.specs.Networks.{covers, home_of, part_holding}
 use Rattle.kd_config.specs.Configuration.{Configuration}
@@ -15,6 +16,7 @@ use Rattle.kd_lease.specs.Change.{Changes, Decides}
 use Rattle.kd_lease.specs.Choice.{Asking, Choice, Rank, fitting_for, has_rank, is_from, live_row, usable}
 use Rattle.kd_lease.specs.Client.{client_identity, identity_under, kind_of, named_server}
 use Rattle.kd_lease.specs.Kept.{reservation_at}
+use Rattle.kd_lease.specs.Membership.{InClasses}
 use Rattle.kd_lease.specs.Plan.{Content, Outcome}
 use Rattle.kd_lease.specs.Plan.Outcome.{planned}
 use Rattle.kd_lease.specs.Rules.{Does, IsAbout, Makes, Sets, client_has, ending, has_to_move, held_at, holds_at, known_in, lasting_for, renewable, rule_of, serving_subnet}
@@ -200,3 +202,18 @@ abbrev pub StandsAlone : Type 0
 StandsAlone =
     (subnets : List Subnet) (s : Subnet) (a : ℕ) → s.network ≡ 0
     → (covers subnets s a ≡ has_address s.prefix a) × (part_holding subnets s a ≡ s)
+
+-- a message is in one list of classes at most
+abbrev pub OneMembership : Type 0
+OneMembership =
+    (config : Configuration) (rows : List Row) (m : Seen) (now : ℕ) (names others : List (List ℕ))
+    → InClasses config rows m now names → InClasses config rows m now others → names ≡ others
+
+-- where clients are not known by their reservations, these are the classes whose tests are true, and no
+-- others
+abbrev pub ClassesByTests : Type 0
+ClassesByTests =
+    (config : Configuration) (rows : List Row) (m : Seen) (now : ℕ) (names : List (List ℕ))
+    → config.extensions.knows_clients ≡ false
+    → (InClasses config rows m now names → HeldSet m config.classes names)
+    × (HeldSet m config.classes names → InClasses config rows m now names)

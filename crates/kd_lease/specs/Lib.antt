@@ -12,6 +12,7 @@ pub mod Keeping
 pub mod Kept
 pub mod Laws
 pub mod Leases
+pub mod Membership
 pub mod Parts
 pub mod Plan
 pub mod Ranks

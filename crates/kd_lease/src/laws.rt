@@ -1,6 +1,6 @@
 //! What is true of the rules, whatever the program does. Each law is the contract of a function
 //! that does nothing.
-ghost use Rattle.kd_lease.specs.Laws.{ClientsMove, EndsAreFounded, EndsDecide, HeldHasNoRank, HeldIsNotGiven, HeldIsNotUsable, KnownByAddress, KnownByMessage, KnownByRecord, NakSetsNone, NobodyMoves, OneAnswer, OneChange, PlaceByHeader, RenewedByClass, ReservedByList, ServesAlone, ServesByPrefix, SetsNow, StandsAlone, StrangersAreRefused};
+ghost use Rattle.kd_lease.specs.Laws.{ClassesByTests, ClientsMove, EndsAreFounded, EndsDecide, HeldHasNoRank, HeldIsNotGiven, HeldIsNotUsable, KnownByAddress, KnownByMessage, KnownByRecord, NakSetsNone, NobodyMoves, OneAnswer, OneChange, OneMembership, PlaceByHeader, RenewedByClass, ReservedByList, ServesAlone, ServesByPrefix, SetsNow, StandsAlone, StrangersAreRefused};
 
 /// A row that a message sets has the time of the message as its time of change.
 pub fn sets_now()
@@ -115,10 +115,23 @@ pub fn one_answer()
     ensures { OneAnswer }
 {}
 
+/// A message is in one list of classes at most, at a time over a table.
+pub fn one_membership()
+    ensures { OneMembership }
+{
+    kd_classes::laws::one_join();
+}
+
+/// Where clients are not known by their reservations, as in our own format, these are the classes
+/// whose tests are true, and no others.
+pub fn classes_by_tests()
+    ensures { ClassesByTests }
+{}
+
 /// So a message at a given time changes a table to at most one table, and gets at most one result.
 pub fn one_change()
     ensures { OneChange }
 {
     one_answer();
-    kd_classes::laws::one_held();
+    one_membership();
 }

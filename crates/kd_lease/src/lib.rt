@@ -1,7 +1,8 @@
 //! The lease rules: what each message of a client gets, and where the reply is sent.
 //!
 //! What this layer promises to the one above: a message gets what the rules say for the
-//! configuration and the classes that the message is in (`specs/Change.antt`), in the subnet that
+//! configuration and the classes that the message is in (`specs/Change.antt`,
+//! `specs/Membership.antt`), in the subnet that
 //! serves it (`specs/SubnetOf.antt`), or in which its client keeps a lease (`specs/Kept.antt`). Its
 //! effect on the table of leases is that of `specs/Rules.antt`, and the address that a client is
 //! offered is that of `specs/Choice.antt`; `specs/Laws.antt` says what is true of these rules for
@@ -32,6 +33,7 @@ mod keeping;
 pub mod laws;
 mod leases;
 mod matter;
+mod membership;
 mod parts;
 mod plan;
 mod pool_search;
@@ -62,6 +64,7 @@ pub use kd_rows::{Row, Rows, State};
 pub use keeping::{is_to_keep, subnet_kept};
 pub use leases::Leases;
 pub use matter::Matter;
+pub use membership::{classes_held, names_before, subnet_kept_for};
 pub use plan::{Outline, Plan, PlanKind};
 pub use question::{Question, subnet_or};
 pub use ranks::{Ranks, ranks_of};

@@ -1,7 +1,6 @@
 -- The steps in which a server with leases answers a datagram. Proofs tie these to the history's one
 -- event; no public contract cites them.
 use Rattle.std.specs.Prelude.{◌≡◌, ℕ, ◌⊎◌, List, Option, None}
-use Rattle.kd_classes.specs.HeldSet.{HeldSet}
 use Rattle.kd_config.specs.Configuration.{Configuration}
 use Rattle.kd_event.specs.declared.event.Response.{Response}
 use Rattle.kd_event.specs.declared.event.Response.TheVariants as responses
@@ -9,6 +8,7 @@ use Rattle.kd_event.specs.declared.ports.Ports.{Ports}
 use Rattle.kd_event.specs.declared.reason.Reason.TheVariants as reasons
 use Rattle.kd_lease.specs.Change.{Decides}
 use Rattle.kd_lease.specs.Destination.{destination_of}
+use Rattle.kd_lease.specs.Membership.{InClasses}
 use Rattle.kd_lease.specs.Plan.{Outcome}
 use Rattle.kd_lease.specs.declared.plan.Plan.{Plan}
 use Rattle.kd_options.specs.Message.{Seen, Reads}
@@ -27,7 +27,7 @@ IsSent ports m plan (responses.Reply destination text) =
 pub record Turns (config : Configuration) (ports : Ports) (rows : List Row) (now : ℕ) (m : Seen)
     (row : Option Row) (response : Response) : Type 0 where
   pub names : List (List ℕ)
-  pub held : HeldSet m config.classes names
+  pub held : InClasses config rows m now names
   pub outcome : Outcome
   pub decides : Decides config rows names m now row outcome
   pub responds : Responds ports m outcome response

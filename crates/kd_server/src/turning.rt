@@ -11,7 +11,7 @@ ghost use Rattle.kd_server.specs.Turn.{IsSent, IsTurn, Turns};
 ghost use Rattle.kd_server.specs.Unkept.{IsSettable};
 
 use kd_event::{Handled, Ports, Reason, Response};
-use kd_lease::{Ground, Plan, Verdict, decide_on, destination};
+use kd_lease::{Ground, Plan, Verdict, classes_held, decide_on, destination};
 use kd_loops::ServeFault;
 use kd_options::{Message, ReadFault, WriteFault};
 use kd_rows::{MOMENTS, Row};
@@ -85,7 +85,7 @@ fn turn_of(
     ensures small { IfOk result (λ t. IsSmall t.1) }
     ensures set { IfOk result (λ t. IfSome t.0 (IsSetAt moment)) }
 {
-    let names = over.config.classes().held(alloc, message)?;
+    let names = classes_held(alloc, over, message, moment)?;
     let Verdict { row, answer } = decide_on(alloc, over, message, &names, moment)?;
     let response = response_to(alloc, ports, message, &answer)?;
     Ok((row, response))

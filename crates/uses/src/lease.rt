@@ -1,11 +1,10 @@
 ghost use Rattle.std.specs.Prelude.{◌^◌, ◌<◌, IfOk, List, ℕ};
-ghost use Rattle.kd_classes.specs.HeldSet.{HeldSet};
 ghost use Rattle.kd_lease.specs.Change.{Decides};
 ghost use Rattle.kd_lease.specs.Decided.{outcome_in};
+ghost use Rattle.kd_lease.specs.Membership.{InClasses};
 
-use kd_classes::laws;
 use kd_config::Config;
-use kd_lease::{Decision, Rows, decide};
+use kd_lease::{Decision, Ground, Rows, classes_held, decide, laws};
 use kd_options::Message;
 use std::alloc::{AllocError, Global};
 
@@ -18,11 +17,11 @@ pub fn decision(
     moment: u64,
 ) -> Result<Decision, AllocError>
     requires { moment < 2 ^ 40 }
-    ensures { (names : List (List ℕ)) → HeldSet message.now config.now.classes names
-        → IfOk result (λ it. Decides config.now rows.now.rows names message.now moment it.row
+    ensures { (names : List (List ℕ))
+        → InClasses config.now rows.now.rows message.now moment names → IfOk result (λ it. Decides config.now rows.now.rows names message.now moment it.row
         (outcome_in it.answer)) }
 {
-    laws::one_held();
-    let names = config.classes().held(alloc, message)?;
+    laws::one_membership();
+    let names = classes_held(alloc, Ground::of(config, rows), message, moment)?;
     decide(alloc, config, rows, message, &names, moment)
 }
