@@ -11,3 +11,4 @@ pub mod Whole
 pub mod Shares
 pub mod WorkedTimes
 pub mod WorkedLifetimes
+pub mod Words

@@ -1,10 +1,11 @@
 -- What a text of Kea's describes obeys what all settings obey, object by object.
-use Rattle.std.proofs.Common.{◌≡◌, ℕ, true, List, ◌++◌, codes, Option, Some, subst}
+use Rattle.std.proofs.Common.{◌≡◌, ℕ, Bool, true, false, not, List, [], ◌∷◌, ◌++◌, length, codes, Option, Some, None, ap, ◌∙◌, subst, arith}
 use Rattle.std.specs.Prelude.{option_and_then}
+use Rattle.std.specs.List.{AllByRecursion}
 use Rattle.kd_config.proofs.Tests.{some_is}
 use Rattle.kd_classes.specs.declared.option_list.OptionData.{OptionData}
-use Rattle.kd_config.specs.Sound.{AreOptions}
-use Rattle.kd_json.proofs.Came.{came_from, each_meant, passed}
+use Rattle.kd_config.specs.Sound.{AreOptions, IsFrom}
+use Rattle.kd_json.proofs.Came.{came_from, each_meant, passed, passed_only}
 use Rattle.kd_json.proofs.SoundSettings.{name_sound}
 use Rattle.kd_json.specs.Class.{class_name_in}
 use Rattle.kd_json.specs.Document.{value_spelled}
@@ -18,7 +19,9 @@ use Rattle.kd_kea.proofs.SoundLifetimes.{class_lifetime_sound, keys_sound, usual
 use Rattle.kd_kea.proofs.SoundNetworks.{subnets_sound}
 use Rattle.kd_kea.proofs.Sounds.{all_sound, options_sound, server_sound, times_sound}
 use Rattle.kd_keys.specs.Boot.{kea_boot, own_boot}
-use Rattle.kd_kea.specs.Class.{kea_class_options, kea_class}
+use Rattle.kd_kea.specs.Class.{kea_class_options, kea_class, own_class_name}
+use Rattle.kd_kea.specs.Known.{are_of_clients, classes_with, untested}
+use Rattle.kd_keys.specs.ClassNames.{is_of_clients}
 use Rattle.kd_keys.specs.Definitions.{kea_definitions, kea_known}
 use Rattle.kd_keys.specs.HostKinds.{kinds_given}
 use Rattle.kd_keys.specs.HostName.{server_has_bare_names}
@@ -45,22 +48,45 @@ class_options_sound known d options e =
     let own = came_from (kea_definitions true (get (codes "option-def") d)) _ options e in
     options_sound (own.first ++ known) (get (codes "option-data") d) options own.gives
 
+named : (d : Data) (name : List ℕ) → own_class_name d ≡ Some name → class_name_in d ≡ Some name
+unfolding own_class_name
+named d name e =
+    let given = came_from (class_name_in d) _ name e in
+    let own = passed_only (not (is_of_clients given.first)) given.first name given.gives in
+    given.is ∙ ap Some own.1
+
 entry_sound : (known : List DefinedOption) (d : Data) (entry : ClassEntry) → kea_class known d ≡ Some entry → IsEntry entry
 unfolding kea_class
 entry_sound known d entry e =
     let keys = passed (keys_are_read class_keys d) _ entry e in
-    let name = came_from (option_and_then class_name_in (get (codes "name") d)) _ entry keys.1 in
+    let name = came_from (option_and_then own_class_name (get (codes "name") d)) _ entry keys.1 in
     let text = came_from (text_if_given (get (codes "test") d)) _ entry name.gives in
     let options = came_from (kea_class_options known d) _ entry text.gives in
     let boot = came_from (own_boot d) _ entry options.gives in
     let lifetime = came_from (own_lifetime d) _ entry boot.gives in
-    let value = came_from (get (codes "name") d) class_name_in name.first name.is in
+    let value = came_from (get (codes "name") d) own_class_name name.first name.is in
     subst IsEntry (some_is _ entry lifetime.gives) (record {
-      name = name_sound value.first name.first value.gives;
+      name = name_sound value.first name.first (named value.first name.first value.gives);
       options = class_options_sound known d options.first options.is;
       boot = own_sound d boot.first boot.is;
       lifetime = class_lifetime_sound d lifetime.first lifetime.is;
     })
+
+untested_sound : (name : List ℕ) → IsFrom 1 255 (length name) → IsEntry (untested name)
+untested_sound name named =
+    record {
+      name = named;
+      options = record { few = omega arith; each = tt; own = tt };
+      boot = record { next_server = tt; server_name = tt; file_name = tt };
+      lifetime = tt;
+    }
+
+with_sound : (knows : Bool) (classes : List ClassEntry) → AllByRecursion IsEntry classes → AllByRecursion IsEntry (classes_with knows classes)
+with_sound false classes each = each
+with_sound true classes each = (
+  untested_sound (codes "KNOWN") (record { above = omega arith; below = omega arith }),
+  (untested_sound (codes "UNKNOWN") (record { above = omega arith; below = omega arith }), each),
+)
 
 dhcp4_sound : (server : Option ℕ) (d : Data) (s : Settings) → kea_dhcp4 server d ≡ Some s → AreSettings s
 unfolding kea_dhcp4 kea_settings_with
@@ -83,7 +109,8 @@ dhcp4_sound server d s e =
       server = server_sound options.first server address.first address.is;
       times = times_sound keys.first numbers.usual d times.first times.is;
       options = all_sound known.first (get (codes "option-data") d) options.first options.is;
-      classes = each_meant IsEntry (kea_class known.first) (entry_sound known.first) 256 (get (codes "client-classes") d) classes.first classes.is;
+      classes = with_sound (are_of_clients classes.first subnets.first) classes.first
+          (each_meant IsEntry (kea_class known.first) (entry_sound known.first) 256 (get (codes "client-classes") d) classes.first classes.is);
       few = sound.0;
       subnets = sound.1;
     })

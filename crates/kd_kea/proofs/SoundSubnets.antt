@@ -27,10 +27,11 @@ use Rattle.kd_keys.specs.Keys.{keys_are_read}
 use Rattle.kd_kea.specs.Lifetimes.{kea_keys}
 use Rattle.kd_keys.specs.Options.{kea_options}
 use Rattle.kd_keys.specs.Parts.{parts_of_all}
-use Rattle.kd_kea.specs.Pool.{kea_pool, kea_range, may_require}
+use Rattle.kd_kea.specs.Pool.{kea_pool, kea_range}
 use Rattle.kd_keys.specs.Relay.{kea_relay, relays_by, relays_of}
 use Rattle.kd_kea.specs.Reservation.{address_if_given, kea_reservation}
 use Rattle.kd_kea.specs.Subnet.{above_within, stand_beside, has_subnet_form, is_at_server, kea_subnet, kea_subnet_with}
+use Rattle.kd_keys.specs.ClassNames.{classes_given}
 use Rattle.kd_keys.specs.Tables.{host_keys, pool_keys, relay_keys}
 use Rattle.kd_keys.specs.Values.{flag_or}
 use Rattle.kd_keys.specs.declared.definition.DefinedOption.{DefinedOption}
@@ -53,8 +54,7 @@ pool_sound known d pool e =
     let keys = passed (keys_are_read pool_keys d) _ pool e in
     let range = came_from (option_and_then kea_range (get (codes "pool") d)) _ pool keys.1 in
     let class = came_from (text_if_given (get (codes "client-class") d)) _ pool range.gives in
-    let served = passed (may_require (get (codes "client-class") d >>= as_str)) _ pool class.gives in
-    let options = came_from (kea_options false known (get (codes "option-data") d)) _ pool served.1 in
+    let options = came_from (kea_options false known (get (codes "option-data") d)) _ pool class.gives in
     let value = came_from (get (codes "pool") d) kea_range range.first range.is in
     subst IsWide (some_is _ pool options.gives) (record {
       some = range_rises value.first range.first value.gives;
@@ -70,7 +70,8 @@ reservation_sound known kinds bare d reservation e =
     let address = came_from (address_if_given (get (codes "ip-address") d)) _ reservation client.gives in
     let options = came_from (host_options known bare d) _ reservation address.gives in
     let boot = came_from (own_boot d) _ reservation options.gives in
-    subst IsReservation (some_is _ reservation boot.gives) (record {
+    let joins = came_from (classes_given d) _ reservation boot.gives in
+    subst IsReservation (some_is _ reservation joins.gives) (record {
       identity = client_sound d client.first client.is;
       options = host_options_sound known bare d options.first options.is;
       boots = listed_sound boot.first (own_sound d boot.first boot.is);

@@ -7,3 +7,4 @@ pub mod Subnet
 pub mod Network
 pub mod Settings
 pub mod Kea
+pub mod Known

@@ -1,7 +1,7 @@
 -- A pool of a subnet in a configuration of Kea's.
-use Rattle.std.specs.Prelude.{◌-◌, ℕ, nat_lt, bytes_eq, Bool, true, false, not, ◌||◌, List, codes, Option, Some, None}
+use Rattle.std.specs.Prelude.{◌-◌, ℕ, nat_lt, false, List, codes, Option, Some}
 use Rattle.serde_json.specs.Data.{Data}
-use Rattle.serde_json.specs.Find.{as_str, get}
+use Rattle.serde_json.specs.Find.{get}
 use Rattle.kd_config.specs.Classed.{class_list}
 use Rattle.kd_config.specs.declared.pool.Pool.{Pool}
 use Rattle.kd_config.specs.declared.range.Range.{Range}
@@ -21,22 +21,11 @@ kea_range d = do
   range ← pool_addresses d
   only_if (nat_lt (range.last - range.first) 4194304) range
 
--- a class that a pool may require: any but that of all clients with a reservation and that of all
--- others, which Kea knows without a test
-abbrev pub is_served_class : List ℕ → Bool
-is_served_class class = not (bytes_eq class (codes "KNOWN") || bytes_eq class (codes "UNKNOWN"))
-
--- the same, if a class is given
-abbrev pub may_require : Option (List ℕ) → Bool
-may_require None = true
-may_require (Some class) = is_served_class class
-
 -- the pool that a value describes, with these definitions of options; an empty class is none
 unfoldable pub kea_pool : List DefinedOption → Data → Option Pool
 kea_pool known d = do
   _ ← must (keys_are_read pool_keys d)
   range ← get (codes "pool") d >>= kea_range
   class ← text_if_given (get (codes "client-class") d)
-  _ ← must (may_require (get (codes "client-class") d >>= as_str))
   options ← kea_options false known (get (codes "option-data") d)
   Some (record { range = range; classes = class_list (unless_empty class); options = options })

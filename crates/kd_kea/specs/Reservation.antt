@@ -1,5 +1,5 @@
--- A reservation in a configuration of Kea's: a client, its address if it has one, and the options
--- and boot fields of that client.
+-- A reservation in a configuration of Kea's: a client, its address if it has one, and the options,
+-- boot fields and classes of that client.
 use Rattle.std.specs.Prelude.{ℕ, Bool, codes, List, [], Option, Some, None, option_map}
 use Rattle.serde_json.specs.Data.{Data}
 use Rattle.serde_json.specs.Find.{get}
@@ -7,6 +7,7 @@ use Rattle.kd_config.specs.declared.reservation.Reservation.{Reservation}
 use Rattle.kd_json.specs.Steps.{must}
 use Rattle.kd_json.specs.Values.{address_given}
 use Rattle.kd_keys.specs.Boot.{boot_listed, own_boot}
+use Rattle.kd_keys.specs.ClassNames.{classes_given}
 use Rattle.kd_keys.specs.HostClient.{kea_client}
 use Rattle.kd_keys.specs.HostKinds.{are_all_found}
 use Rattle.kd_keys.specs.HostName.{host_options}
@@ -31,4 +32,5 @@ kea_reservation known kinds bare d = do
   address ← address_if_given (get (codes "ip-address") d)
   options ← host_options known bare d
   boot ← own_boot d
-  Some (record { identity = client; address = address; options = options; boots = boot_listed boot; classes = [] })
+  joins ← classes_given d
+  Some (record { identity = client; address = address; options = options; boots = boot_listed boot; classes = []; joins = joins })

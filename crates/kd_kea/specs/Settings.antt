@@ -1,5 +1,5 @@
 -- The object `Dhcp4` and the root of a configuration of Kea's.
-use Rattle.std.specs.Prelude.{ℕ, Bool, true, false, not, ◌&&◌, List, codes, Option, Some, None, is_some}
+use Rattle.std.specs.Prelude.{ℕ, Bool, true, false, ◌&&◌, List, codes, Option, Some, None, is_some}
 use Rattle.serde_json.specs.Data.{Data}
 use Rattle.serde_json.specs.Find.{as_object, get}
 use Rattle.kd_classes.specs.declared.option_list.OptionData.{OptionData}
@@ -9,6 +9,7 @@ use Rattle.kd_json.specs.Steps.{must}
 use Rattle.kd_json.specs.declared.objects.settings.Settings.{Settings}
 use Rattle.kd_keys.specs.Boot.{kea_boot}
 use Rattle.kd_kea.specs.Class.{kea_class}
+use Rattle.kd_kea.specs.Known.{are_of_clients, classes_with}
 use Rattle.kd_keys.specs.Definitions.{kea_known}
 use Rattle.kd_keys.specs.HostKinds.{finds_reservations, kinds_given, order_given}
 use Rattle.kd_keys.specs.HostName.{server_has_bare_names}
@@ -47,7 +48,7 @@ unfoldable pub kea_settings_with : List DefinedOption → List OptionData → Ab
 kea_settings_with known options above d = do
   classes ← list_of 256 (kea_class known) (get (codes "client-classes") d)
   subnets ← kea_subnets above known d
-  Some (record { server = above.server; times = above.times; extensions = kea_extensions above.policy.is_authoritative (not above.policy.matches_client_ids) (order_given (get (codes "host-reservation-identifiers") d)); options = sent_to_all options; classes = classes; subnets = subnets })
+  Some (record { server = above.server; times = above.times; extensions = kea_extensions above.policy (are_of_clients classes subnets) (order_given (get (codes "host-reservation-identifiers") d)); options = sent_to_all options; classes = classes_with (are_of_clients classes subnets) classes; subnets = subnets })
 
 -- the settings that the value of `Dhcp4` describes, for a server with this address if no option
 -- has another

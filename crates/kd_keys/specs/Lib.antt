@@ -8,6 +8,7 @@ pub mod Quoted
 pub mod OptionValue
 pub mod Options
 pub mod Boot
+pub mod ClassNames
 pub mod Policy
 pub mod Parts
 pub mod HostName

@@ -6,7 +6,7 @@ use Rattle.serde_json.specs.Data.{Data}
 use Rattle.serde_json.specs.Find.{get}
 use Rattle.kd_keys.specs.Keys.{flag}
 use Rattle.kd_keys.specs.Values.{flag_given, flag_or, is_plain_if_given}
-use Rattle.kd_keys.specs.declared.policy.Policy.{Policy}
+use Rattle.kd_config.specs.declared.extensions.Policy.{Policy}
 use Rattle.kd_wire.specs.Steps.{◌>>=◌}
 
 -- the policy in the value of `Dhcp4`: unless it says otherwise, the server is not authoritative, and

@@ -181,7 +181,7 @@ host_keys =
     ∷ (codes "ip-address", served)
     ∷ (codes "hostname", served)
     ∷ (codes "option-data", served)
-    ∷ (codes "client-classes", usual (no_list ∷ []))
+    ∷ (codes "client-classes", served)
     ∷ remarks ++ boot_keys
 
 -- what is done with the keys of each kind of object

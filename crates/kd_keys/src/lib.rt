@@ -4,13 +4,14 @@
 //! What this layer promises to the one above: `check_keys` accepts an object exactly if each of its
 //! keys may be there, by the tables of `specs/Tables.antt`, which say of each key whether it is read,
 //! skipped, or allowed with its usual values alone. Options, their definitions, boot fields, host
-//! names, the clients of reservations, relays, hooks and the policy of the server are read by one
+//! names, the clients of reservations and their classes, relays, hooks and the policy of the server are read by one
 //! definition each, unless memory runs out.
 #![tactic(auto)]
 
 pub mod alone;
 pub mod boot;
 pub mod checking;
+pub mod class_names;
 pub mod definition;
 pub mod entry;
 pub mod flags;

@@ -9,19 +9,11 @@ ghost use Rattle.kd_keys.specs.Values.{flag_or};
 
 use crate::flags::{check_usual, flag_at, flag_in, flag_or_default};
 use crate::keys::UsualValue;
+use kd_config::Policy;
 use kd_json::objects::faults::SettingsFault;
 use kd_json::rules::place::Place;
 use serde_json::Value;
 use std::alloc::Global;
-
-/// What holds of clients for the whole server.
-#[derive(Clone, Copy)]
-pub struct Policy {
-    /// A client of which there is no record gets a NAK.
-    pub is_authoritative: bool,
-    /// A client is known by its identifier, if it sends one.
-    pub matches_client_ids: bool,
-}
 
 /// Reads the policy of the whole server.
 ///

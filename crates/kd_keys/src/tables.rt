@@ -218,7 +218,7 @@ const RESERVATION: &[Row] = &[
     ("ip-address", KeyRule::Served),
     ("hostname", KeyRule::Served),
     ("option-data", KeyRule::Served),
-    ("client-classes", NO_LIST),
+    ("client-classes", KeyRule::Served),
 ];
 
 // The tables of each kind of object.

@@ -16,13 +16,12 @@ use Rattle.kd_classes.specs.declared.boot.Boot.{Boot}
 use Rattle.kd_classes.specs.declared.option_list.OptionData.{OptionData}
 use Rattle.kd_json.proofs.Came.{came_from, passed, passed_only, seen_from}
 use Rattle.kd_json.specs.FirstFault.{path_below}
-use Rattle.kd_json.specs.Class.{class_name_in}
 use Rattle.kd_json.specs.Lists.{all_of, items_or_none, list_of}
 use Rattle.kd_json.specs.Subnet.{subnet_prefix}
 use Rattle.kd_json.specs.Values.{number_if_given, text_if_given}
 use Rattle.kd_json.specs.declared.objects.settings.Settings.{Settings}
 use Rattle.kd_keys.specs.Boot.{kea_boot, own_boot}
-use Rattle.kd_kea.specs.Class.{kea_class_options, kea_class}
+use Rattle.kd_kea.specs.Class.{kea_class_options, kea_class, own_class_name}
 use Rattle.kd_keys.specs.Definitions.{are_apart, kea_definition, kea_definitions, kea_known, standard_records, usual_vendor}
 use Rattle.kd_kea.specs.Kea.{kea_settings}
 use Rattle.kd_keys.specs.HostClient.{kea_client}
@@ -32,16 +31,17 @@ use Rattle.kd_keys.specs.Keys.{keys_are_read}
 use Rattle.kd_kea.specs.Lifetimes.{own_lifetime, has_class_lifetime, kea_keys, usual_keys}
 use Rattle.kd_keys.specs.Alone.{each_described, items_of, right_definitions, usable_definitions, with_first}
 use Rattle.kd_keys.specs.Options.{is_served_if_given}
-use Rattle.kd_notes.specs.Notes.{KeyNote, ObjectNotes, above_by, all_subnet_notes, around_members, around_of, beside_note, boot_in, boot_notes, class_lifetime_notes, keys_in_network, policy_notes, service_notes, term_notes, inside_notes, kea_inside, network_below, network_lists, network_notes, network_own, network_values, outside_in, prefix_given, class_notes, data_notes, definition_note, definition_notes, flag_note, have_refused, host_notes, host_values, is_not_failed, kind_notes, item_notes, kea_below, kea_beside, kea_notes, kea_value, list_notes, listed_notes, lists_by, name_notes, note_on_name, note_unless, notes_at, notes_of_each, number_note, object_notes, option_notes, or_wrong, own_notes, pool_notes, relay_notes, root_notes, server_lists, server_flags, server_notes, server_times, subnet_lists, subnet_notes, subnet_own, subnet_values, text_note, all_times, value_notes, required_notes}
+use Rattle.kd_notes.specs.Notes.{KeyNote, ObjectNotes, above_by, all_subnet_notes, around_members, around_of, beside_note, boot_in, boot_notes, class_lifetime_notes, keys_in_network, policy_notes, service_notes, term_notes, inside_notes, kea_inside, network_below, network_lists, network_notes, network_own, network_values, outside_in, prefix_given, class_notes, data_notes, definition_note, definition_notes, flag_note, have_refused, host_notes, host_values, is_not_failed, kind_notes, item_notes, kea_below, kea_beside, kea_notes, kea_value, list_notes, listed_notes, lists_by, name_notes, note_on_name, note_unless, notes_at, notes_of_each, number_note, object_notes, option_notes, or_wrong, own_notes, pool_notes, relay_notes, root_notes, server_lists, server_flags, server_notes, server_times, subnet_lists, subnet_notes, subnet_own, subnet_values, text_note, all_times, value_notes, joined_note}
 use Rattle.kd_kea.specs.Network.{as_member, has_network_form, is_in_one_of, is_interface_of, kea_common, kea_member, kea_network, kea_subnets}
 use Rattle.kd_keys.specs.Options.{is_served_space, kea_entry, kea_options, server_address}
 use Rattle.kd_keys.specs.Parts.{parts_of_all}
-use Rattle.kd_kea.specs.Pool.{kea_pool, kea_range, may_require}
+use Rattle.kd_kea.specs.Pool.{kea_pool, kea_range}
 use Rattle.kd_keys.specs.Policy.{kea_policy, repeats_policy}
 use Rattle.kd_kea.specs.Reservation.{address_if_given, kea_reservation}
 use Rattle.kd_kea.specs.Settings.{has_server_form, kea_dhcp4, kea_root, kea_settings_with}
 use Rattle.kd_keys.specs.Relay.{kea_relay, relays_of}
 use Rattle.kd_kea.specs.Subnet.{above_within, has_subnet_form, is_at_server, kea_subnet, kea_subnet_with, stand_beside}
+use Rattle.kd_keys.specs.ClassNames.{classes_given}
 use Rattle.kd_keys.specs.Tables.{class_keys, data_keys, definition_keys, host_keys, network_keys, pool_keys, relay_keys, root_keys, server_keys, subnet_keys}
 use Rattle.kd_kea.specs.Times.{kea_times}
 use Rattle.kd_keys.specs.Values.{flag_given, flag_or, text_otherwise, unless_empty}
@@ -51,7 +51,7 @@ use Rattle.kd_keys.specs.declared.definition.DefinedOption.{DefinedOption}
 use Rattle.kd_keys.specs.declared.host_kinds.HostKinds.{HostKinds}
 use Rattle.kd_kea.specs.declared.objects.lifetimes.TermKeys.{TermKeys}
 use Rattle.kd_kea.specs.declared.objects.network.Common.{Common}
-use Rattle.kd_keys.specs.declared.policy.Policy.{Policy}
+use Rattle.kd_config.specs.declared.extensions.Policy.{Policy}
 use Rattle.kd_kea.specs.declared.objects.subnet.Above.{Above}
 use Rattle.kd_wire.specs.Steps.{◌>>=◌}
 use Rattle.kd_notes.proofs.NoneWrong.{none_in_both, own_boot_pass, boot_pass, own_pass, unless_none, right, flag_right, wrong_none, object_none, is_object, form_of, services_pass, bind_is, server_times_pass, Fits, subnet_values_pass, address_known, around_fits, above_known, below_known, class_lifetime_pass, must_hold, policy_pass, term_pass}
@@ -157,24 +157,20 @@ definitions_pass in_class d its path e =
     (list_at_pass 256 (kea_definition in_class) (definition_note in_class) (definition_pass in_class) (path_below path (codes "option-def")) (get (codes "option-def") d) read.first read.is)
 
 pool_pass : (known : List DefinedOption) → NoneRefused (kea_pool known) (pool_notes known)
-unfolding kea_pool pool_notes required_notes
+unfolding kea_pool pool_notes
 pool_pass known d pool path e =
     let keys = passed (keys_are_read pool_keys d) _ pool e in
     let range = came_from (get (codes "pool") d >>= kea_range) _ pool keys.1 in
     let class = came_from (text_if_given (get (codes "client-class") d)) _ pool range.gives in
-    let served = passed (may_require (get (codes "client-class") d >>= as_str)) _ pool class.gives in
-    let options = came_from (kea_options false known (get (codes "option-data") d)) _ pool served.1 in
+    let options = came_from (kea_options false known (get (codes "option-data") d)) _ pool class.gives in
     let keyed = own_notes pool_keys path d in
     let of_range = note_unless (is_some (get (codes "pool") d >>= kea_range)) Wrong path (codes "pool") in
     let of_class = text_note (codes "client-class") path d in
-    let of_served = note_unless (may_require (get (codes "client-class") d >>= as_str)) Unknown path (codes "client-class") in
-    object_none (kea_pool known d) pool path d (keyed ++ of_range ++ required_notes path d ++ option_notes false known path d) e (is_object pool_keys d keys.0)
-    (none_in_both (keyed ++ of_range ++ required_notes path d) (option_notes false known path d)
-    (none_in_both (keyed ++ of_range) (required_notes path d)
+    object_none (kea_pool known d) pool path d (keyed ++ of_range ++ of_class ++ option_notes false known path d) e (is_object pool_keys d keys.0)
+    (none_in_both (keyed ++ of_range ++ of_class) (option_notes false known path d)
+    (none_in_both (keyed ++ of_range) of_class
     (none_in_both keyed of_range (own_pass pool_keys path d keys.0) (right (get (codes "pool") d >>= kea_range) range.first path (codes "pool") range.is))
-    (none_in_both of_class of_served
-    (right (text_if_given (get (codes "client-class") d)) class.first path (codes "client-class") class.is)
-    (unless_none (may_require (get (codes "client-class") d >>= as_str)) Unknown path (codes "client-class") served.0)))
+    (right (text_if_given (get (codes "client-class") d)) class.first path (codes "client-class") class.is))
     (options_pass false known d options.first path options.is))
 
 -- the options of a reservation
@@ -208,7 +204,7 @@ kinds_pass : (found : HostKinds) (path : List ℕ) (d : Data) → are_all_found 
 kinds_pass found path d e = kinds_pass_by found path d kinds_in_order e
 
 host_pass : (known : List DefinedOption) (kinds : HostKinds) (bare : Bool) → NoneRefused (kea_reservation known kinds bare) (host_notes known kinds bare)
-unfolding kea_reservation host_notes host_values
+unfolding kea_reservation host_notes host_values joined_note
 host_pass known kinds bare d r path e =
     let keys = passed (keys_are_read host_keys d) _ r e in
     let found = passed (are_all_found kinds d) _ r keys.1 in
@@ -216,6 +212,7 @@ host_pass known kinds bare d r path e =
     let address = came_from (address_if_given (get (codes "ip-address") d)) _ r client.gives in
     let options = came_from (host_options known bare d) _ r address.gives in
     let boot = came_from (own_boot d) _ r options.gives in
+    let joins = came_from (classes_given d) _ r boot.gives in
     let given = host_options_pass known bare path d options.first options.is in
     let keyed = own_notes host_keys path d in
     let values = host_values kinds bare path d in
@@ -224,21 +221,23 @@ host_pass known kinds bare d r path e =
     (none_in_both (keyed ++ values ++ of_boot) (option_notes false known path d)
     (none_in_both (keyed ++ values) of_boot
     (none_in_both keyed values (own_pass host_keys path d keys.0)
-    (none_in_both (kind_notes kinds path d) (name_notes bare path d) (kinds_pass kinds path d found.0) given.name))
+    (none_in_both (kind_notes kinds path d ++ name_notes bare path d) (joined_note path d)
+    (none_in_both (kind_notes kinds path d) (name_notes bare path d) (kinds_pass kinds path d found.0) given.name)
+    (right (classes_given d) joins.first path (codes "client-classes") joins.is)))
     (own_boot_pass path d boot.first boot.is)) given.options)
 
 class_pass : (known : List DefinedOption) → NoneRefused (kea_class known) (class_notes known)
 unfolding kea_class kea_class_options class_notes
 class_pass known d class path e =
     let keys = passed (keys_are_read class_keys d) _ class e in
-    let name = came_from (get (codes "name") d >>= class_name_in) _ class keys.1 in
+    let name = came_from (get (codes "name") d >>= own_class_name) _ class keys.1 in
     let text = came_from (text_if_given (get (codes "test") d)) _ class name.gives in
     let options = came_from (kea_class_options known d) _ class text.gives in
     let boot = came_from (own_boot d) _ class options.gives in
     let lifetime = came_from (own_lifetime d) _ class boot.gives in
     let own = came_from (kea_definitions true (get (codes "option-def") d)) _ options.first options.is in
     let keyed = own_notes class_keys path d in
-    let of_name = note_unless (is_some (get (codes "name") d >>= class_name_in)) Wrong path (codes "name") in
+    let of_name = note_unless (is_some (get (codes "name") d >>= own_class_name)) Wrong path (codes "name") in
     let of_test = text_note (codes "test") path d in
     let of_boot = boot_notes path d in
     let of_lifetime = class_lifetime_notes path d in
@@ -250,7 +249,7 @@ class_pass known d class path e =
     (none_in_both (keyed ++ of_name ++ of_test ++ of_boot) of_lifetime
     (none_in_both (keyed ++ of_name ++ of_test) of_boot
     (none_in_both (keyed ++ of_name) of_test
-    (none_in_both keyed of_name (own_pass class_keys path d keys.0) (right (get (codes "name") d >>= class_name_in) name.first path (codes "name") name.is))
+    (none_in_both keyed of_name (own_pass class_keys path d keys.0) (right (get (codes "name") d >>= own_class_name) name.first path (codes "name") name.is))
     (right (text_if_given (get (codes "test") d)) text.first path (codes "test") text.is))
     (own_boot_pass path d boot.first boot.is))
     (class_lifetime_pass path d lifetime.first lifetime.is))
@@ -710,7 +709,7 @@ definition_noted in_class path d e = nothing_noted (kea_definition in_class d) p
 pub class_noted : (known : List DefinedOption) (path : List ℕ) (d : Data) → kea_class known d ≡ None → have_refused (class_notes known path d) ≡ true
 unfolding class_notes
 class_noted known path d e =
-    let of_name = note_unless (is_some (get (codes "name") d >>= class_name_in)) Wrong path (codes "name") in
+    let of_name = note_unless (is_some (get (codes "name") d >>= own_class_name)) Wrong path (codes "name") in
     nothing_noted (kea_class known d) path d
     (own_notes class_keys path d ++ of_name ++ text_note (codes "test") path d ++ boot_notes path d ++ class_lifetime_notes path d ++ definition_notes true path d ++ option_notes false (right_definitions true d ++ known) path d) e
 
@@ -718,7 +717,7 @@ pub pool_noted : (known : List DefinedOption) (path : List ℕ) (d : Data) → k
 unfolding pool_notes
 pool_noted known path d e =
     let of_range = note_unless (is_some (get (codes "pool") d >>= kea_range)) Wrong path (codes "pool") in
-    nothing_noted (kea_pool known d) path d (own_notes pool_keys path d ++ of_range ++ required_notes path d ++ option_notes false known path d) e
+    nothing_noted (kea_pool known d) path d (own_notes pool_keys path d ++ of_range ++ text_note (codes "client-class") path d ++ option_notes false known path d) e
 
 pub host_noted : (known : List DefinedOption) (kinds : HostKinds) (bare : Bool) (path : List ℕ) (d : Data) → kea_reservation known kinds bare d ≡ None → have_refused (host_notes known kinds bare path d) ≡ true
 unfolding host_notes

@@ -39,7 +39,7 @@ use Rattle.kd_notes.specs.declared.around.Around.{Around}
 use Rattle.kd_keys.specs.declared.definition.DefinedOption.{DefinedOption}
 use Rattle.kd_keys.specs.declared.host_kinds.HostKinds.{HostKinds}
 use Rattle.kd_kea.specs.declared.objects.lifetimes.TermKeys.{TermKeys}
-use Rattle.kd_keys.specs.declared.policy.Policy.{Policy}
+use Rattle.kd_config.specs.declared.extensions.Policy.{Policy}
 use Rattle.kd_kea.specs.declared.objects.subnet.Above.{Above}
 use Rattle.kd_kea.specs.declared.objects.times.TheConstants.{HALF, SEVEN_EIGHTHS}
 use Rattle.kd_wire.specs.Steps.{◌>>=◌}

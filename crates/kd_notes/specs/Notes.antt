@@ -13,7 +13,6 @@ use Rattle.kd_config.specs.Address.{has_address}
 use Rattle.kd_config.specs.Sound.{longest_lease}
 use Rattle.kd_config.specs.declared.prefix.Prefix.{Prefix}
 use Rattle.kd_config.specs.declared.times.Times.{Times}
-use Rattle.kd_json.specs.Class.{class_name_in}
 use Rattle.kd_json.specs.Document.{value_spelled}
 use Rattle.kd_json.specs.FirstFault.{path_below}
 use Rattle.kd_json.specs.Lists.{items_or_none, list_of}
@@ -21,7 +20,7 @@ use Rattle.kd_json.specs.Subnet.{subnet_prefix}
 use Rattle.kd_json.specs.Values.{number_if_given, text_if_given}
 use Rattle.kd_keys.specs.Alone.{right_definitions, usable_definitions}
 use Rattle.kd_keys.specs.Boot.{field_given, kea_boot, next_server_given}
-use Rattle.kd_kea.specs.Class.{kea_class}
+use Rattle.kd_kea.specs.Class.{kea_class, own_class_name}
 use Rattle.kd_keys.specs.Definitions.{kea_definition, kea_definitions, kea_known}
 use Rattle.kd_keys.specs.HostKinds.{finds_reservations, is_found_if_given, kinds_given, kinds_in_order, kind_key}
 use Rattle.kd_keys.specs.HostName.{has_bare_names, host_name, may_be_named, server_has_bare_names}
@@ -33,11 +32,12 @@ use Rattle.kd_keys.specs.Options.{is_served_if_given, kea_entry, kea_options, se
 use Rattle.kd_plain.specs.Plain.{plain}
 use Rattle.kd_keys.specs.Parts.{parts_of_all}
 use Rattle.kd_keys.specs.Policy.{kea_policy}
-use Rattle.kd_kea.specs.Pool.{kea_pool, kea_range, may_require}
+use Rattle.kd_kea.specs.Pool.{kea_pool, kea_range}
 use Rattle.kd_keys.specs.Relay.{kea_relay}
 use Rattle.kd_kea.specs.Reservation.{kea_reservation}
 use Rattle.kd_kea.specs.Settings.{kea_dhcp4, kea_root, turns_nothing_on}
 use Rattle.kd_kea.specs.Subnet.{is_at_server, kea_subnet, stand_beside}
+use Rattle.kd_keys.specs.ClassNames.{classes_given}
 use Rattle.kd_keys.specs.Tables.{class_keys, data_keys, definition_keys, host_keys, network_keys, pool_keys, relay_keys, root_keys, server_keys, subnet_keys}
 use Rattle.kd_kea.specs.Times.{has_usual_shares, kea_times, share_key, times_key}
 use Rattle.kd_keys.specs.Values.{flag_given, flag_or, is_plain_if_given}
@@ -48,7 +48,7 @@ use Rattle.kd_notes.specs.declared.around.Around.{Around}
 use Rattle.kd_keys.specs.declared.definition.DefinedOption.{DefinedOption}
 use Rattle.kd_keys.specs.declared.host_kinds.HostKinds.{HostKinds}
 use Rattle.kd_kea.specs.declared.objects.lifetimes.TermKeys.{TermKeys}
-use Rattle.kd_keys.specs.declared.policy.Policy.{Policy}
+use Rattle.kd_config.specs.declared.extensions.Policy.{Policy}
 use Rattle.kd_kea.specs.declared.objects.subnet.Above.{Above}
 use Rattle.kd_kea.specs.declared.objects.times.TheConstants.{HALF, SEVEN_EIGHTHS}
 use Rattle.kd_names.specs.Values.{sign_text}
@@ -407,20 +407,13 @@ definition_notes in_class path d =
     (path_below path (codes "option-def"))
     (notes_of_each (definition_note in_class) path (codes "option-def") d)
 
--- the notes on the class that a pool requires
-unfoldable pub required_notes : ObjectNotes
-required_notes path d =
-    text_note (codes "client-class") path d
-    ++ note_unless (may_require (get (codes "client-class") d >>= as_str)) Unknown path
-    (codes "client-class")
-
 -- the notes of a pool at a path
 unfoldable pub pool_notes : List DefinedOption → ObjectNotes
 pool_notes known path d =
     object_notes (is_some (kea_pool known d)) path d
     (own_notes pool_keys path d
     ++ note_unless (is_some (get (codes "pool") d >>= kea_range)) Wrong path (codes "pool")
-    ++ required_notes path d
+    ++ text_note (codes "client-class") path d
     ++ option_notes false known path d)
 
 -- the note on a host name, if there is one: it is wrong, or it would have a suffix
@@ -439,9 +432,15 @@ kind_notes kinds path d =
     flat_map (λ kind. note_unless (is_found_if_given kinds d kind) Unknown path (kind_key kind))
     kinds_in_order
 
--- the notes on such keys, and on the host name
+-- the note on the classes that a reservation gives, if they are wrong
+unfoldable pub joined_note : ObjectNotes
+joined_note path d =
+    note_unless (is_some (classes_given d)) Wrong path (codes "client-classes")
+
+-- the notes on such keys, on the host name, and on the classes
 unfoldable pub host_values : HostKinds → Bool → ObjectNotes
-host_values kinds bare path d = kind_notes kinds path d ++ name_notes bare path d
+host_values kinds bare path d =
+    kind_notes kinds path d ++ name_notes bare path d ++ joined_note path d
 
 -- the notes of a reservation at a path, where reservations are looked for by these kinds of
 -- identity, and host names have no suffix or have one
@@ -458,7 +457,7 @@ unfoldable pub class_notes : List DefinedOption → ObjectNotes
 class_notes known path d =
     object_notes (is_some (kea_class known d)) path d
     (own_notes class_keys path d
-    ++ note_unless (is_some (get (codes "name") d >>= class_name_in)) Wrong path (codes "name")
+    ++ note_unless (is_some (get (codes "name") d >>= own_class_name)) Wrong path (codes "name")
     ++ text_note (codes "test") path d
     ++ boot_notes path d
     ++ class_lifetime_notes path d

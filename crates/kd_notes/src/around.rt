@@ -4,7 +4,7 @@ ghost use Rattle.kd_kea.specs.Lifetimes.{kea_keys};
 ghost use Rattle.kd_notes.specs.Notes.{above_by, around_of, is_not_failed, kea_address, kea_below, kea_beside, all_times};
 
 use kd_classes::Boot;
-use kd_config::Times;
+use kd_config::{Policy, Times};
 use kd_json::objects::faults::SettingsFault;
 use kd_json::objects::lists::{EntryReader, entries_of};
 use kd_json::rules::place::{Place, bad_place};
@@ -20,7 +20,7 @@ use kd_keys::flags::{flag_in, flag_or_default};
 use kd_keys::host_kinds::{HostKinds, kinds_of_server};
 use kd_keys::host_name::{names_are_bare, server_names_are_bare};
 use kd_keys::options::options_of;
-use kd_keys::policy::{Policy, written_policy};
+use kd_keys::policy::written_policy;
 use kd_keys::scope::scope_of_all;
 use serde_json::Value;
 use std::alloc::{AllocError, Global};

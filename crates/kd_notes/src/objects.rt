@@ -3,7 +3,7 @@ ghost use Rattle.serde_json.specs.Find.{get};
 ghost use Rattle.serde_json.specs.View.{members_view, view};
 ghost use Rattle.kd_keys.specs.HostName.{has_bare_names};
 ghost use Rattle.kd_keys.specs.Keys.{key_use};
-ghost use Rattle.kd_notes.specs.Notes.{all_subnet_notes, class_notes, data_notes, definition_note, definition_notes, host_notes, key_notes, kind_of_note, listed_notes, lists_by, member_keys, note_below, option_notes, own_notes, pool_notes, relay_notes, required_notes, root_notes, server_lists, server_notes, subnet_lists, subnet_notes, subnet_own, subnet_values, term_notes};
+ghost use Rattle.kd_notes.specs.Notes.{all_subnet_notes, class_notes, data_notes, definition_note, definition_notes, host_notes, key_notes, kind_of_note, listed_notes, lists_by, member_keys, note_below, option_notes, own_notes, pool_notes, relay_notes, root_notes, server_lists, server_notes, subnet_lists, subnet_notes, subnet_own, subnet_values, term_notes};
 ghost use Rattle.kd_keys.specs.Scope.{definitions_in};
 ghost use Rattle.kd_keys.specs.Tables.{key_table, subnet_keys};
 
@@ -21,7 +21,7 @@ use crate::walk::{
 };
 use crate::wholes::{DefinitionListReader, OptionListReader, RootReader, ServerReader};
 use kd_kea::objects::class::{ClassReader, has_class_name};
-use kd_kea::objects::pool::{PoolReader, has_range, has_served_class};
+use kd_kea::objects::pool::{PoolReader, has_range};
 use kd_kea::objects::reservation::ReservationReader;
 use kd_keys::checking::{UPDATES, is_allowed};
 use kd_keys::definition::{DefinedOption, DefinitionReader, definitions_alone, known_alone};
@@ -316,20 +316,10 @@ impl<'a> NotedObject for PoolObject<'a> {
         let mut inner = NoteList::new(notes.allocator());
         note_keys(&mut inner, pool, path, ObjectKind::Pool)?;
         note_failed(&mut inner, has_range(pool), path, "pool", NoteKind::Wrong)?;
-        note_required(&mut inner, pool, path)?;
+        note_text(&mut inner, pool, path, "client-class")?;
         note_part_options(&mut inner, pool, path, self.known)?;
         append_checked(notes, inner, &PoolReader { known: self.known }, pool, path)
     }
-}
-
-// Notes that the class that a pool requires is wrong, or is not served.
-#[tactic(auto, unfolding(crate::specs::Notes::required_notes))]
-fn note_required(notes: &mut NoteList, pool: &Value, path: &str) -> Result<(), AllocError>
-    ensures { OnOk result (notes.new ≡ notes.old ++ required_notes path.now (view pool.now)) }
-{
-    let is_served = has_served_class(pool);
-    note_text(notes, pool, path, "client-class")?;
-    note_failed(notes, is_served, path, "client-class", NoteKind::Unknown)
 }
 
 // A reservation, as it is read.

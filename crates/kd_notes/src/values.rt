@@ -3,7 +3,7 @@ ghost use Rattle.serde_json.specs.Find.{get};
 ghost use Rattle.serde_json.specs.View.{view};
 ghost use Rattle.kd_json.specs.Subnet.{subnet_prefix};
 ghost use Rattle.kd_json.specs.Values.{number_if_given, text_if_given};
-ghost use Rattle.kd_notes.specs.Notes.{boot_notes, flag_note, hook_kind, hook_notes, host_values, interface_notes, kind_notes, name_notes, number_note, off_notes, policy_notes, server_flags, service_notes, subnet_own, subnet_values, text_note, usual_note};
+ghost use Rattle.kd_notes.specs.Notes.{boot_notes, flag_note, hook_kind, hook_notes, host_values, interface_notes, joined_note, kind_notes, name_notes, number_note, off_notes, policy_notes, server_flags, service_notes, subnet_own, subnet_values, text_note, usual_note};
 ghost use Rattle.kd_keys.specs.Rows.{plain_of};
 
 use crate::around::Around;
@@ -11,18 +11,19 @@ use crate::list::NoteList;
 use crate::notes::NoteKind;
 use crate::walk::{NotedObject, note_failed, note_value};
 use crate::wholes::NameReader;
+use kd_config::Policy;
 use kd_json::objects::values::number_in;
 use kd_kea::objects::reservation::ReservationReader;
 use kd_kea::objects::settings::is_off;
 use kd_kea::objects::subnet::{has_server_interface, written_prefix};
 use kd_keys::alone::read_alone;
 use kd_keys::boot::{written_file, written_name, written_server};
+use kd_keys::class_names::GivenClassesReader;
 use kd_keys::flags::{flag_in, is_usual_at};
 use kd_keys::hooks::are_quiet_hooks;
 use kd_keys::host_kinds::{HostKinds, all_kinds, has_identifiers, key_of_kind};
 use kd_keys::host_name::may_have_name;
 use kd_keys::keys::UsualValue;
-use kd_keys::policy::Policy;
 use serde_json::Value;
 use std::alloc::AllocError;
 
@@ -295,7 +296,8 @@ fn is_text(object: &Value, key: &str) -> bool
     }
 }
 
-// Notes the keys of a reservation by which reservations are not looked for, and its host name.
+// Notes the keys of a reservation by which reservations are not looked for, its host name and its
+// classes.
 #[tactic(auto, unfolding(crate::specs::Notes::host_values))]
 pub(crate) fn note_host_values(
     notes: &mut NoteList,
@@ -307,7 +309,23 @@ pub(crate) fn note_host_values(
         ++ host_values reader.entry.kinds reader.entry.bare path.now (view host.now)) }
 {
     note_kinds(notes, host, path, reader.kinds)?;
-    note_name(notes, host, path, reader.bare)
+    note_name(notes, host, path, reader.bare)?;
+    note_joined(notes, host, path)
+}
+
+// Notes the classes that a reservation gives, if they are wrong.
+#[tactic(auto, unfolding(crate::specs::Notes::joined_note))]
+fn note_joined(notes: &mut NoteList, host: &Value, path: &str) -> Result<(), AllocError>
+    ensures { OnOk result (notes.new ≡ notes.old ++ joined_note path.now (view host.now)) }
+{
+    let given = read_alone(notes.allocator(), &GivenClassesReader, host)?;
+    note_failed(
+        notes,
+        given.is_some(),
+        path,
+        "client-classes",
+        NoteKind::Wrong,
+    )
 }
 
 // Notes the keys of a reservation by which reservations are not looked for.

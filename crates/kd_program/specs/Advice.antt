@@ -16,6 +16,7 @@ use Rattle.kd_config.specs.Apart.{has}
 use Rattle.kd_config.specs.Configuration.{Configuration}
 use Rattle.kd_config.specs.declared.pool.Pool.{Pool}
 use Rattle.kd_config.specs.declared.prefix.Prefix.{Prefix}
+use Rattle.kd_config.specs.declared.reservation.Reservation.{Reservation}
 use Rattle.kd_config.specs.declared.subnet.Subnet.{Subnet}
 use Rattle.kd_trouble.specs.declared.fault.StartFault.{StartFault}
 use Rattle.kd_names.specs.Values.{sign_text}
@@ -64,12 +65,26 @@ abbrev pub def_asks : Option ClassDef → Bool
 def_asks None = false
 def_asks (Some def) = test_asks def.test
 
--- what is wrong with requiring a class: nobody is in it, because it is neither built in nor
--- defined; or its test asks for what a relay adds, a client that renews is not relayed, and such a
--- client does not keep its lease
+-- a reservation gives its client a class
+abbrev pub joins_class : List ℕ → Reservation → Bool
+joins_class class reservation = list_any (λ name. bytes_eq class name) reservation.joins
+
+-- a subnet has a reservation that does
+abbrev pub is_given_in : List ℕ → Subnet → Bool
+is_given_in class s = list_any (joins_class class) s.reservations
+
+-- somebody may be in a class: it is built in or defined, or a reservation gives it
+abbrev pub may_be_held : Configuration → List ℕ → Bool
+may_be_held config class =
+    built_in class
+    || (is_some (defined config.classes class) || list_any (is_given_in class) config.subnets)
+
+-- what is wrong with requiring a class: nobody is in it, because it is neither built in nor defined,
+-- and no reservation gives it; or its test asks for what a relay adds, a client that renews is not
+-- relayed, and such a client does not keep its lease
 abbrev pub class_trouble : Configuration → List ℕ → Option (List ℕ)
 class_trouble config class =
-    if not (built_in class || is_some (defined config.classes class))
+    if not (may_be_held config class)
     then Some (codes ": its client-class is not defined, so it serves nobody\n")
     else if not config.extensions.keeps_leases && def_asks (defined config.classes class)
     then Some (codes ": its client-class asks for option 82, which a client that renews does not send, so it does not serve renewals\n")

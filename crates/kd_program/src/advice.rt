@@ -1,13 +1,13 @@
 ghost use Rattle.std.specs.Prelude.{◌≡◌, ◌++◌, ◌||◌, Bool, OnOk, Result, is_some, option_copied, option_map, string_bytes};
 ghost use Rattle.std.specs.List.{flat_map, list_any};
 ghost use Rattle.kd_trouble.specs.declared.troubles.SocketTrouble.{SocketTrouble};
-ghost use Rattle.kd_program.specs.Advice.{IsFoundMissing, address_advice, advice_lines, all_subnets_advice, asks_relay, class_trouble, def_asks, defined, is_absent, last_of, network_lines, pool_advice, pool_class_notes, pool_class_text, pool_name, pool_note};
+ghost use Rattle.kd_program.specs.Advice.{IsFoundMissing, address_advice, advice_lines, all_subnets_advice, asks_relay, class_trouble, def_asks, defined, is_absent, is_given_in, joins_class, last_of, network_lines, pool_advice, pool_class_notes, pool_class_text, pool_name, pool_note};
 ghost use Rattle.kd_program.specs.Advice.{pool_text, required_note, server_advice, server_text, subnet_advice, subnet_class_note, subnet_class_notes, subnet_text, test_asks};
 
 use crate::hiding::put_hidden;
 use crate::host::Host;
 use kd_classes::{ClassDef, Classes, is_built_in};
-use kd_config::{Config, Pool, Prefix, Subnet};
+use kd_config::{Config, Pool, Prefix, Reservation, Subnet};
 use kd_text::{put_address, put_prefix};
 use kd_token::{Token, Verified};
 use kd_trouble::SocketTrouble;
@@ -195,7 +195,7 @@ fn trouble_with(config: &Config, class: &[u8]) -> Option<&'static str>
     ensures { option_copied result ≡ class_trouble config.now class.now }
 {
     let found = defined_in(config.classes(), class);
-    if !(is_built_in(class) || found.is_some()) {
+    if !(is_built_in(class) || found.is_some() || is_given(config, class)) {
         return Some(": its client-class is not defined, so it serves nobody\n");
     }
     if !config.extensions().keeps_leases && definition_asks(found) {
@@ -204,6 +204,29 @@ fn trouble_with(config: &Config, class: &[u8]) -> Option<&'static str>
         );
     }
     None
+}
+
+// Reports whether a reservation gives its client a class.
+fn is_given(config: &Config, class: &[u8]) -> bool
+    ensures { result ≡ list_any (is_given_in class.now) config.now.subnets }
+{
+    config.subnets().iter().any(|subnet| gives(subnet, class))
+}
+
+// Reports whether a subnet has a reservation that gives its client a class.
+fn gives(subnet: &Subnet, class: &[u8]) -> bool
+    ensures { result ≡ is_given_in class.now subnet.now }
+{
+    let reservations = subnet.reservations.as_slice();
+    reservations.iter().any(|it| is_joined(it, class))
+}
+
+// Reports whether a reservation gives its client a class.
+fn is_joined(reservation: &Reservation, class: &[u8]) -> bool
+    ensures { result ≡ joins_class class.now reservation.now }
+{
+    let joins = reservation.joins.as_slice();
+    joins.iter().any(|name| class == name.as_slice())
 }
 
 // Returns the definition of a class, if there is one.

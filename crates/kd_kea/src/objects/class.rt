@@ -1,10 +1,9 @@
-ghost use Rattle.std.specs.Prelude.{◌≡◌, codes, is_some, option_and_then};
+ghost use Rattle.std.specs.Prelude.{◌≡◌, codes, is_some, option_and_then, option_map};
 ghost use Rattle.serde_json.specs.Find.{get};
 ghost use Rattle.serde_json.specs.View.{view};
-ghost use Rattle.kd_json.specs.Class.{class_name_in};
 ghost use Rattle.kd_json.specs.Gives.{Means};
 ghost use Rattle.kd_json.specs.declared.objects.faults.SettingsFault.TheVariants.{Memory};
-ghost use Rattle.kd_kea.specs.Class.{kea_class_options, kea_class, source_by};
+ghost use Rattle.kd_kea.specs.Class.{kea_class_options, kea_class, own_class_name, source_by};
 
 use crate::objects::lifetimes::class_lifetime_of;
 use kd_classes::OptionList;
@@ -15,6 +14,7 @@ use kd_json::objects::values::{own_bytes, text_or_none};
 use kd_json::rules::place::{Place, bad_value, missing};
 use kd_keys::boot::own_boot_of;
 use kd_keys::checking::check_keys;
+use kd_keys::class_names::is_known_or_unknown;
 use kd_keys::definition::{DefinedOption, definitions_of};
 use kd_keys::flags::non_empty;
 use kd_keys::options::options_of;
@@ -47,7 +47,7 @@ impl<'a> EntryReader for ClassReader<'a> {
         let Some(name) = value.get("name") else {
             return Err(missing(alloc, at, "name"));
         };
-        let name = match name_in(name) {
+        let name = match own_name_in(name) {
             Some(name) => own_bytes(alloc, name)?,
             None => return Err(bad_value(alloc, at, "name")),
         };
@@ -65,15 +65,30 @@ impl<'a> EntryReader for ClassReader<'a> {
     }
 }
 
-/// Reports whether a class has a name.
+// Returns the name of a class of the file's own: 1 to 255 bytes, and not one of the two that say
+// whether a client has a reservation.
+#[tactic(auto, unfolding(crate::specs::Class::own_class_name))]
+fn own_name_in(value: &Value) -> Option<&[u8]>
+    ensures { option_map (λ name. name.now) result ≡ own_class_name (view value.now) }
+{
+    let name = name_in(value)?;
+    if is_known_or_unknown(name) {
+        None
+    } else {
+        Some(name)
+    }
+}
+
+/// Reports whether a class has a name, which is not one of the two that say whether a client has a
+/// reservation.
 pub fn has_class_name(class: &Value) -> bool
     ensures { result
-        ≡ is_some (option_and_then class_name_in (get (codes "name") (view class.now))) }
+        ≡ is_some (option_and_then own_class_name (get (codes "name") (view class.now))) }
 {
     let Some(name) = class.get("name") else {
         return false;
     };
-    match name_in(name) {
+    match own_name_in(name) {
         Some(_) => true,
         None => false,
     }

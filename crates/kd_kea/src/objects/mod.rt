@@ -2,6 +2,7 @@
 
 pub mod class;
 pub(crate) mod document;
+mod known;
 pub mod lifetimes;
 pub mod network;
 pub mod pool;

@@ -1,14 +1,14 @@
 ghost use Rattle.std.specs.Prelude.{◌≡◌, codes, is_some, option_and_then};
-ghost use Rattle.serde_json.specs.Find.{as_str, get};
+ghost use Rattle.serde_json.specs.Find.{get};
 ghost use Rattle.serde_json.specs.View.{view};
-ghost use Rattle.kd_kea.specs.Pool.{is_served_class, kea_pool, kea_range, may_require};
+ghost use Rattle.kd_kea.specs.Pool.{kea_pool, kea_range};
 
 use kd_config::{Pool, Range, classes_of};
 use kd_json::objects::faults::SettingsFault;
 use kd_json::objects::lists::EntryReader;
 use kd_json::objects::pool::addresses_in;
 use kd_json::objects::values::text_or_none;
-use kd_json::rules::place::{Place, bad_value, missing, unknown};
+use kd_json::rules::place::{Place, bad_value, missing};
 use kd_keys::checking::check_keys;
 use kd_keys::definition::DefinedOption;
 use kd_keys::flags::non_empty;
@@ -43,9 +43,6 @@ impl<'a> EntryReader for PoolReader<'a> {
             return Err(bad_value(alloc, at, "pool"));
         };
         let class = text_or_none(alloc, value, at, "client-class")?;
-        if !has_served_class(value) {
-            return Err(unknown(alloc, at, "client-class"));
-        }
         let options = options_of(alloc, value, at, part_scope(self.known))?;
         let classes = classes_of(alloc, non_empty(class))?;
         Ok(Pool {
@@ -77,25 +74,4 @@ pub fn has_range(pool: &Value) -> bool
         Some(text) => range_in(text).is_some(),
         None => false,
     }
-}
-
-/// Reports whether the class of a pool, if it is given as text, is one that a pool may require.
-pub fn has_served_class(pool: &Value) -> bool
-    ensures { result
-        ≡ may_require (option_and_then as_str (get (codes "client-class") (view pool.now))) }
-{
-    let Some(value) = pool.get("client-class") else {
-        return true;
-    };
-    match value.as_str() {
-        Some(class) => is_served(class.as_bytes()),
-        None => true,
-    }
-}
-
-// Reports whether a pool may require a class.
-fn is_served(class: &[u8]) -> bool
-    ensures { result ≡ is_served_class class.now }
-{
-    !(class == "KNOWN".as_bytes() || class == "UNKNOWN".as_bytes())
 }

@@ -12,6 +12,7 @@ use kd_json::objects::values::address_in;
 use kd_json::rules::place::{Place, bad_value};
 use kd_keys::boot::{boot_list, own_boot_of};
 use kd_keys::checking::check_keys;
+use kd_keys::class_names::classes_given_by;
 use kd_keys::definition::DefinedOption;
 use kd_keys::host_client::client_of;
 use kd_keys::host_kinds::{HostKinds, check_kinds};
@@ -50,12 +51,14 @@ impl<'a> EntryReader for ReservationReader<'a> {
         let address = given_address(alloc, value, at)?;
         let options = host_options_of(alloc, value, at, self.known, self.bare)?;
         let boot = own_boot_of(alloc, value, at)?;
+        let joins = classes_given_by(alloc, value, at)?;
         Ok(Reservation {
             identity,
             address,
             options,
             boots: boot_list(alloc, boot)?,
             classes: Entries::own(Vec::new(alloc)),
+            joins,
         })
     }
 }

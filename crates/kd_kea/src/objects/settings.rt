@@ -1,5 +1,4 @@
-ghost use Rattle.std.specs.Prelude.{◌≡◌, Some, not};
-ghost use Rattle.kd_config.specs.Configuration.{kea_extensions};
+ghost use Rattle.std.specs.Prelude.{◌≡◌, Some};
 ghost use Rattle.serde_json.specs.Find.{get};
 ghost use Rattle.serde_json.specs.View.{view};
 ghost use Rattle.kd_json.specs.Gives.{Means};
@@ -10,12 +9,13 @@ ghost use Rattle.kd_keys.specs.Rows.{plain_of};
 ghost use Rattle.kd_kea.specs.Settings.{has_server_form, kea_dhcp4, kea_root, kea_settings_with, turns_nothing_on};
 
 use crate::objects::class::ClassReader;
+use crate::objects::known::{knows_clients, with_known};
 use crate::objects::lifetimes::{TermKeys, is_lifetime_by_class, keys_of};
 use crate::objects::network::subnets_of;
 use crate::objects::subnet::Above;
 use crate::objects::times::times_of;
 use kd_classes::{OptionData, OptionList};
-use kd_config::{Extensions, IdentityKind};
+use kd_config::Extensions;
 use kd_json::objects::faults::SettingsFault;
 use kd_json::objects::lists::entries_of;
 use kd_json::objects::settings::Settings;
@@ -29,10 +29,9 @@ use kd_keys::host_kinds::{check_identifiers, kinds_of_server, order_of};
 use kd_keys::host_name::server_names_are_bare;
 use kd_keys::keys::UsualValue;
 use kd_keys::options::{address_among, options_of, without_server};
-use kd_keys::policy::{Policy, policy_of};
+use kd_keys::policy::policy_of;
 use kd_keys::scope::scope_of_all;
 use kd_keys::tables::ObjectKind;
-use kd_wire::Entries;
 use serde_json::Value;
 use std::alloc::Global;
 
@@ -136,23 +135,15 @@ fn settings_of_lists(
     let subnets = subnets_of(alloc, value, at, above, known)?;
     let options = without_server(alloc, options)?;
     let order = order_of(alloc, value)?;
+    let knows = knows_clients(classes.as_slice(), subnets.as_slice());
     Ok(Settings {
         server: above.server,
         times: above.times,
-        extensions: extensions_by(above.policy, order),
+        extensions: Extensions::of_kea(above.policy, knows, order),
         options,
-        classes,
+        classes: with_known(alloc, knows, classes)?,
         subnets,
     })
-}
-
-// Returns the extensions of the rules in a configuration of Kea's, with this order of the kinds of
-// identities.
-fn extensions_by(policy: Policy, order: Entries<IdentityKind>) -> Extensions
-    ensures { result
-        ≡ kea_extensions policy.is_authoritative (not policy.matches_client_ids) order }
-{
-    Extensions::of_kea(policy.is_authoritative, !policy.matches_client_ids, order)
 }
 
 // Checks that the value has the keys of `Dhcp4`, and that nothing in it is kept in another place.
