@@ -178,9 +178,10 @@ def pool(text):
     return number(address(first.strip())), number(address(last.strip()))
 
 
-def classes(root, files, datagram, found):
-    """The names of the classes that a message is in."""
+def classes(root, files, datagram, found, joined=()):
+    """The names of the classes that a message is in. Some may be held before any test."""
     held = [b"ALL"] + ([b"VENDOR_CLASS_" + found[60]] if 60 in found else [])
+    held += [name for name in dict.fromkeys(joined) if name not in held]
     for entry in root.get("client-classes", []):
         name = entry["name"].encode()
         if "test" in entry:

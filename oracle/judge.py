@@ -326,6 +326,20 @@ def counting(asked, wanted):
     return reservation(asked) or behind
 
 
+def knows_clients(root):
+    """Whether clients are known by their reservations: one of these gives classes, or KNOWN or UNKNOWN is asked for."""
+    asks = [entry.get("test", "") for entry in root.get("client-classes", [])]
+    asks += [name for subnet, network in subnets_of(root) for name in classes_of(network, subnet, *subnet.get("pools", []))]
+    gives = any(entry.get("client-classes") for subnet, _ in subnets_of(root) for entry in subnet.get("reservations", []))
+    return is_kea(root) and (gives or any("KNOWN" in text for text in asks))
+
+
+def names_by_reservation(asked):
+    """The classes that the client's reservation gives it, and whether it has one."""
+    entry = counting(asked, ciaddr(asked)) if asked.subnet else None
+    return [b"UNKNOWN"] if entry is None else [name.encode() for name in entry.get("client-classes", [])] + [b"KNOWN"]
+
+
 def reserved_by(entry):
     """The address of a reservation in a list, or none."""
     return [number(address(entry["ip-address"]))] if "ip-address" in entry else []
@@ -736,12 +750,17 @@ def asked_of(root, rows, moment, datagram):
     reason = unheard(datagram, found)
     if reason is not None:
         return reason
-    held = classes(root, {}, datagram, found)
-    if b"DROP" in held:
-        return "quiet 4 DropClass"
     kept = kept_subnet(root, rows, now, datagram, found)
-    subnet = kept or subnet_of(root, datagram, found, held)
-    return Asked(root, rows, now, datagram, found, held, subnet, kept is not None, identity(root, datagram, found))
+    client = identity(root, datagram, found)
+
+    def by_names(held):
+        subnet = kept or subnet_of(root, datagram, found, held)
+        return Asked(root, rows, now, datagram, found, held, subnet, kept is not None, client)
+
+    asked = by_names(classes(root, {}, datagram, found))
+    if knows_clients(root):
+        asked = by_names(classes(root, {}, datagram, found, names_by_reservation(asked)))
+    return "quiet 4 DropClass" if b"DROP" in asked.held else asked
 
 
 def handle(root, rows, moment, datagram):

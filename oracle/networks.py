@@ -9,7 +9,8 @@ some clients have a reservation in several subnets of a network. Clients come th
 into a class. The whole server, networks, subnets, classes and reservations give values to boot fields, some of them empty. Some
 relays select a link, and some set the identifier by which their clients name the server. Some clients renew without the relay
 that says their class or their circuit. Some servers are authoritative, and some ignore client identifiers. Some reservations are
-by circuit or by DUID, have no address, or have options.
+by circuit or by DUID, have no address, or have options. In half of the files reservations give classes, and tests, pools and some
+subnets ask for them, or for clients with a reservation or without one.
 In half of the files the whole server, networks, subnets and classes give lifetimes, and all but classes times of renewal or shares
 for them. Some clients ask for a lifetime.
 """
@@ -32,6 +33,14 @@ BOOTS = {
     "next-server": ["", "0.0.0.0", "0.0.0.0", "10.9.8.7", "192.0.2.200", "255.255.255.254"],
     "server-hostname": ["", "", "a", "boot.example", "b\u00fcro", "h" * 62 + "E"],
     "boot-file-name": ["", "", "a", 'pxe/grub \\ "0".efi', "\u20ac/x", "f" * 126 + "E"],
+}
+# Classes that a reservation gives, of which one has a test of its own, and tests that ask for them or for a reservation.
+GIVEN = ["given", "free", "a", "DROP"]
+KNOWING = {
+    "known": "member('KNOWN')",
+    "unknown a": "member('UNKNOWN') and option[60].hex == 'a'",
+    "not given": "not member('given')",
+    "both": "member('given') and member('free') or member('known')",
 }
 SECONDS = [1, 2, 3, 5, 20, 60, 100, 100, 300, 1000, 3601, 2147483647]
 SHARES = [0.001, 0.1, 0.285, 0.2851, 0.5, 0.5, 0.6, 0.875, 0.999]
@@ -102,6 +111,28 @@ def with_hosts(chance, root):
             if chance.random() < 0.2 * often:
                 entry.pop("ip-address")
             entry.update(histories.options(chance, 0.5 * often))
+    return root
+
+
+def with_known(chance, root):
+    """The configuration with classes that reservations give, and with tests, subnets and pools that ask for them, in some files."""
+    if chance.random() < 0.5:
+        return root
+    often = chance.choice([0.2, 0.5, 0.8])
+    root["client-classes"][:0] = [{"name": "given", **histories.options(chance, 0.7)}, {"name": "free"}]
+    tests = [(name, test) for name, test in KNOWING.items() if chance.random() < often]
+    names = {entry["name"] for entry in root["client-classes"]}
+    root["client-classes"] += [{"name": name, "test": test, **histories.options(chance, 0.5)} for name, test in tests if name not in names]
+    if "known" not in {entry["name"] for entry in root["client-classes"]}:
+        root["client-classes"] = [entry for entry in root["client-classes"] if entry["name"] != "both"]
+    wanted = ["KNOWN", "UNKNOWN", "given", "free", *(entry["name"] for entry in root["client-classes"])]
+    for subnet, _ in judge.subnets_of(root):
+        for entry in subnet["reservations"]:
+            if chance.random() < often:
+                entry["client-classes"] = chance.sample(GIVEN[:3], chance.choice([1, 1, 2])) + GIVEN[3:] * (chance.random() < 0.05)
+        for entry in [*subnet["pools"], *[subnet] * (chance.random() < 0.15)]:
+            if chance.random() < often / 2:
+                entry["client-class"] = chance.choice(wanted)
     return root
 
 
@@ -209,8 +240,8 @@ def configuration(chance):
             root["shared-networks"].append(network(chance, len(root["shared-networks"]), taken))
         else:
             root["subnet4"] += taken
-    root = with_doubles(chance, with_guards(chance, root))
-    return with_all_times(chance, with_boot_keys(chance, with_order(chance, with_hosts(chance, root))))
+    root = with_hosts(chance, with_doubles(chance, with_guards(chance, root)))
+    return with_all_times(chance, with_boot_keys(chance, with_order(chance, with_known(chance, root))))
 
 
 def history(chance):
