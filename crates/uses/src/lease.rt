@@ -4,7 +4,7 @@ ghost use Rattle.kd_lease.specs.Decided.{outcome_in};
 ghost use Rattle.kd_lease.specs.Membership.{InClasses};
 
 use kd_config::Config;
-use kd_lease::{Decision, Ground, Rows, classes_held, decide, laws};
+use kd_lease::{Decision, Ground, Rows, classes_held, decide};
 use kd_options::Message;
 use std::alloc::{AllocError, Global};
 
@@ -17,11 +17,11 @@ pub fn decision(
     moment: u64,
 ) -> Result<Decision, AllocError>
     requires { moment < 2 ^ 40 }
-    ensures { (names : List (List ℕ))
-        → InClasses config.now rows.now.rows message.now moment names → IfOk result (λ it. Decides config.now rows.now.rows names message.now moment it.row
+    ensures { IfOk result (λ it. (names : List (List ℕ))
+        × InClasses config.now rows.now.rows message.now moment names
+        × Decides config.now rows.now.rows names message.now moment it.row
         (outcome_in it.answer)) }
 {
-    laws::one_membership();
     let names = classes_held(alloc, Ground::of(config, rows), message, moment)?;
     decide(alloc, config, rows, message, &names, moment)
 }
