@@ -22,6 +22,11 @@ import networks
 from histories import ROOT
 
 
+def printed(name):
+    """The name of a class as the explanation has it."""
+    return "".join(chr(it) if 0x20 < it < 0x7F and it != 0x5C else f"\\x{it:02x}" for it in name.encode())
+
+
 def run(program, words, text=""):
     done = subprocess.run([program, *words], input=text.encode(), capture_output=True, check=False)
     return (done.stdout + done.stderr).decode().splitlines()
@@ -43,7 +48,7 @@ def passed_over(asked):
         elif (subnet, network) not in naming and not judge.contains(subnet, place):
             yield f"{histories.dotted_number(place)} is outside"
         elif lacking:
-            yield f"the client is not in class {lacking[0]}"
+            yield f"the client is not in class {printed(lacking[0])}"
         else:
             return
 
