@@ -5,6 +5,7 @@ pub mod Pool
 pub mod Reservation
 pub mod Subnet
 pub mod Network
+pub mod OptionText
 pub mod Settings
 pub mod Kea
 pub mod Known

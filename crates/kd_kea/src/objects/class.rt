@@ -1,4 +1,4 @@
-ghost use Rattle.std.specs.Prelude.{◌≡◌, codes, is_some, option_and_then, option_map};
+ghost use Rattle.std.specs.Prelude.{◌≡◌, IfOk, codes, is_some, option_and_then, option_map};
 ghost use Rattle.serde_json.specs.Find.{get};
 ghost use Rattle.serde_json.specs.View.{view};
 ghost use Rattle.kd_json.specs.Gives.{Means};
@@ -6,6 +6,7 @@ ghost use Rattle.kd_json.specs.declared.objects.faults.SettingsFault.TheVariants
 ghost use Rattle.kd_kea.specs.Class.{kea_class_options, kea_class, own_class_name, source_by};
 
 use crate::objects::lifetimes::class_lifetime_of;
+use crate::objects::option_text::asked_in_bytes;
 use kd_classes::OptionList;
 use kd_json::objects::class::{ClassEntry, TestSource, name_in};
 use kd_json::objects::faults::SettingsFault;
@@ -22,7 +23,7 @@ use kd_keys::scope::OptionScope;
 use kd_keys::tables::ObjectKind;
 use kd_wire::Bytes;
 use serde_json::Value;
-use std::alloc::Global;
+use std::alloc::{AllocError, Global};
 
 /// Reads classes.
 #[derive(Clone, Copy)]
@@ -57,7 +58,7 @@ impl<'a> EntryReader for ClassReader<'a> {
         let lifetime = class_lifetime_of(alloc, value, at)?;
         Ok(ClassEntry {
             name,
-            source: source_of(non_empty(text)),
+            source: source_of(alloc, non_empty(text))?,
             options,
             boot,
             lifetime,
@@ -114,11 +115,11 @@ fn options_of_class(
 }
 
 // The test of a class that has this text, if it has one.
-fn source_of(text: Option<Bytes>) -> TestSource
-    ensures { result ≡ source_by text }
+fn source_of(alloc: Global, text: Option<Bytes>) -> Result<TestSource, AllocError>
+    ensures { IfOk result (λ source. source ≡ source_by text) }
 {
     match text {
-        Some(text) => TestSource::Expression(text),
-        None => TestSource::Nothing,
+        Some(text) => Ok(TestSource::Expression(asked_in_bytes(alloc, text.as_slice())?)),
+        None => Ok(TestSource::Nothing),
     }
 }

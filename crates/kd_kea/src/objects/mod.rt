@@ -5,6 +5,7 @@ pub(crate) mod document;
 mod known;
 pub mod lifetimes;
 pub mod network;
+mod option_text;
 pub mod pool;
 pub mod reservation;
 pub mod settings;
