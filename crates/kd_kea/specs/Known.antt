@@ -2,7 +2,7 @@
 -- Manual, sections Built-in Client Classes and Reserving Client Classes in DHCPv4): a reservation gives
 -- classes, or a class, a subnet or a pool asks whether a client has one. Then KNOWN and UNKNOWN are classes
 -- without a test, before those of the file.
-use Rattle.std.specs.Prelude.{◌==◌, ℕ, ◌||◌, Bool, true, false, not, nat_eq, codes, length, List, [], ◌∷◌, Option, None}
+use Rattle.std.specs.Prelude.{◌==◌, ℕ, ◌||◌, Bool, true, false, not, nat_eq, codes, length, List, [], ◌∷◌, None}
 use Rattle.std.specs.List.{list_any, starts_with}
 use Rattle.kd_classes.specs.Boot.{no_boot}
 use Rattle.kd_config.specs.declared.pool.Pool.{Pool}

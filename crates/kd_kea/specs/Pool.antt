@@ -1,5 +1,5 @@
 -- A pool of a subnet in a configuration of Kea's.
-use Rattle.std.specs.Prelude.{◌-◌, ℕ, nat_lt, false, List, codes, Option, Some}
+use Rattle.std.specs.Prelude.{◌-◌, nat_lt, false, List, codes, Option, Some}
 use Rattle.serde_json.specs.Data.{Data}
 use Rattle.serde_json.specs.Find.{get}
 use Rattle.kd_config.specs.Classed.{class_list}

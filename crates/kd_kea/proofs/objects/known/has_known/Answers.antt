@@ -1,4 +1,4 @@
-use Rattle.std.proofs.Common.{◌≡◌, ◌+◌, ◌||◌, Bool, codes, drop, sym, ap, ◌∙◌, arith}
+use Rattle.std.proofs.Common.{◌+◌, ◌||◌, Bool, codes, drop, sym, ap, ◌∙◌, arith}
 use Rattle.kd_kea.proofs.Words.{word_at, word_behind}
 use Rattle.kd_kea.specs.Known.{has_word}
 use Rattle.kd_kea.proofs.objects.known.has_known.Goals as goal
