@@ -1,6 +1,6 @@
 -- The lifetimes of leases: what the classes give, one after another, and what holds of each lifetime of
 -- a configuration holds of those that leases get.
-use Rattle.std.proofs.Common.{◌≡◌, ℕ, zero, suc, ◌+◌, ◌<◌, ◌≤◌, ◌==◌, Bool, true, false, List, [], ◌∷◌, ◌++◌, Option, Some, None, refl, sym, ap, ◌∙◌, filter, length, max, min, slice_get, take, unwrap_or, if◌then◌else◌, arith}
+use Rattle.std.proofs.Common.{◌≡◌, ℕ, ◌+◌, ◌<◌, ◌≤◌, ◌==◌, Bool, true, false, List, [], ◌∷◌, ◌++◌, Option, Some, None, refl, sym, ap, ◌∙◌, filter, length, max, min, slice_get, take, unwrap_or, if◌then◌else◌, arith}
 use Rattle.std.specs.Prelude.{IfSome}
 use Rattle.std.specs.List.{AllByRecursion}
 use Rattle.std.specs.Option.{option_or}
@@ -20,7 +20,7 @@ use Rattle.kd_machine.specs.Parts.{is_held}
 use Rattle.kd_options.specs.Message.{Seen}
 use Rattle.kd_lease.specs.Choice.{Asking}
 use Rattle.kd_lease.specs.Rules.{granted_times, serving_subnet}
-use Rattle.kd_lease.specs.Times.{asked_seconds, class_lifetime, first_lifetime, seconds_under, times_in_subnet, times_under}
+use Rattle.kd_lease.specs.Times.{asked_seconds, class_lifetime, first_lifetime, times_in_subnet, times_under}
 use Rattle.kd_lease.proofs.Boots.{or_assoc, or_none}
 use Rattle.kd_lease.proofs.Served.{at_part, at_serving}
 

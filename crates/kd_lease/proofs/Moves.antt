@@ -1,15 +1,14 @@
 -- A client that is to move to the address that is reserved for it passes not all checks of a REQUEST.
-use Rattle.std.proofs.Common.{◌≡◌, ◌≢◌, ℕ, Bool, true, false, not, ◌&&◌, ◌||◌, List, [], ◌∷◌, Option, Some, None, if◌then◌else◌, refl, ap, sym, ◌∙◌}
+use Rattle.std.proofs.Common.{◌≡◌, ◌≢◌, ℕ, Bool, true, false, not, ◌&&◌, ◌||◌, List, [], ◌∷◌, Option, Some, if◌then◌else◌, refl, ap, sym, ◌∙◌}
 use Rattle.std.specs.List.{AllByRecursion, find, list_any}
 use Rattle.std.proofs.lemmas.Bool.{false≢true, or_right}
 use Rattle.kd_lease.specs.Choice.{Asking}
 use Rattle.kd_lease.specs.Laws.{ClientsMove, NobodyMoves}
-use Rattle.kd_lease.specs.Rules.{checks_in, ending, ends_by, fails, has_to_move, holds_at, is_awaited, passes_in, serving_subnet}
+use Rattle.kd_lease.specs.Rules.{checks_in, ends_by, fails, holds_at, is_awaited, passes_in, serving_subnet}
 use Rattle.kd_lease.specs.declared.rule.Check.{Check}
 use Rattle.kd_lease.specs.declared.rule.Check.TheVariants as checks
 use Rattle.kd_lease.specs.declared.rule.Ending.{Ending}
 use Rattle.kd_lease.specs.declared.rule.Ending.TheVariants as ends
-use Rattle.kd_lease.specs.declared.rule.Rule.{Rule}
 use Rattle.kd_lease.specs.declared.rule.Rule.TheVariants as rules
 
 pub nobody_moves : NobodyMoves

@@ -8,7 +8,7 @@ use Rattle.kd_config.specs.Configuration.{Configuration}
 use Rattle.kd_config.specs.Networks.{covers, home_of, is_part, networks_in, part_holding, value_or}
 use Rattle.kd_config.specs.declared.subnet.Subnet.{Subnet}
 use Rattle.kd_options.specs.Message.{Seen}
-use Rattle.kd_lease.specs.Choice.{Asking, contained, fitting_for, reserved_anywhere}
+use Rattle.kd_lease.specs.Choice.{Asking, fitting_for}
 use Rattle.kd_lease.specs.Client.{selected_link}
 use Rattle.kd_lease.specs.Kept.{renews_lease, subnet_keeping}
 use Rattle.kd_lease.specs.Rules.{kept_subnet, lasting_for, may_last, serving_subnet}

@@ -5,7 +5,6 @@ use Rattle.std.specs.List.{find, list_all, list_any}
 use Rattle.std.specs.Option.{option_or}
 use Rattle.std.specs.Str.{bytes_eq}
 use Rattle.std.proofs.lemmas.Bool.{eqb-true, false≢true}
-use Rattle.std.proofs.lemmas.Option.{none-some, same_Some}
 use Rattle.kd_config.specs.Address.{has_address}
 use Rattle.kd_config.specs.Apart.{lie_apart}
 use Rattle.kd_config.specs.Configuration.{Configuration}

@@ -6,7 +6,7 @@ use Rattle.kd_lease.specs.Choice.{Asking}
 use Rattle.kd_lease.specs.Client.{address_or, client_identity, hardware_identity, named_server, set_identifier}
 use Rattle.kd_lease.specs.Laws.{KnownByAddress, KnownByMessage, KnownByRecord, StrangersAreRefused}
 use Rattle.kd_lease.specs.Rules.{ends_by, fails, holds_at, known_in, serving_subnet}
-use Rattle.kd_lease.specs.Server.{names_another, other_server, server_identifier}
+use Rattle.kd_lease.specs.Server.{other_server, server_identifier}
 use Rattle.kd_lease.specs.declared.rule.Check.{Check}
 use Rattle.kd_lease.specs.declared.rule.Check.TheVariants as checks
 use Rattle.kd_lease.specs.declared.rule.Ending.{Ending}

@@ -1,7 +1,7 @@
 -- The subnet that serves a message (RFC 2131 section 4.3.1; RFC 3527; Kea Administrator Reference
 -- Manual, sections How the DHCPv4 Server Selects a Subnet for the Client and Using a Specific Relay
 -- Agent for a Subnet).
-use Rattle.std.specs.Prelude.{ℕ, Bool, true, not, ◌&&◌, ◌==◌, is_none, List, Option, Some, None, option_map, if◌then◌else◌}
+use Rattle.std.specs.Prelude.{ℕ, Bool, true, not, ◌&&◌, ◌==◌, is_none, List, Option, None, option_map, if◌then◌else◌}
 use Rattle.std.specs.List.{find, list_any}
 use Rattle.kd_config.specs.Address.{has_address}
 use Rattle.kd_config.specs.Classed.{classes_admit}
