@@ -15,7 +15,7 @@ use Rattle.kd_keys.specs.ClassNames.{is_of_clients}
 use Rattle.kd_keys.specs.Definitions.{kea_definitions}
 use Rattle.kd_keys.specs.Keys.{keys_are_read}
 use Rattle.kd_kea.specs.Lifetimes.{own_lifetime}
-use Rattle.kd_kea.specs.OptionText.{in_bytes}
+use Rattle.kd_kea.specs.OptionText.{test_by_bytes}
 use Rattle.kd_keys.specs.Options.{kea_options}
 use Rattle.kd_keys.specs.Tables.{class_keys}
 use Rattle.kd_keys.specs.Values.{unless_empty}
@@ -25,7 +25,7 @@ use Rattle.kd_wire.specs.Steps.{◌>>=◌}
 -- a text is a test, if there is one; it asks for the bytes of options where it asks for their texts
 abbrev pub source_by : Option (List ℕ) → TestSource
 source_by None = Nothing
-source_by (Some text) = Expression (in_bytes text)
+source_by (Some text) = Expression (test_by_bytes text)
 
 -- the options of a class, by its own definitions before those of the whole server
 unfoldable pub kea_class_options : List DefinedOption → Data → Option (List OptionData)

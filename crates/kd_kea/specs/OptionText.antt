@@ -56,5 +56,5 @@ in_bytes_from quoted [] (b ∷ text) =
     b ∷ in_bytes_from (quoted_behind quoted b) (pending_at quoted (b ∷ text)) text
 
 -- a test that asks for the bytes of options in place of their texts
-abbrev pub in_bytes : List ℕ → List ℕ
-in_bytes text = in_bytes_from false [] text
+abbrev pub test_by_bytes : List ℕ → List ℕ
+test_by_bytes text = in_bytes_from false [] text

@@ -2,7 +2,7 @@ ghost use Rattle.std.specs.Prelude.{◌≡◌, ◌<◌, ◌++◌, IfOk, drop, le
 ghost use Rattle.std.specs.List.{starts_with};
 ghost use Rattle.std.specs.Map.{lookup};
 ghost use Rattle.std.specs.Option.{option_copied};
-ghost use Rattle.kd_kea.specs.OptionText.{bytes_or_none, form_of, forms_for, in_bytes, in_bytes_at, in_bytes_from, pending_at, quoted_behind, text_options};
+ghost use Rattle.kd_kea.specs.OptionText.{bytes_or_none, form_of, forms_for, test_by_bytes, in_bytes_at, in_bytes_from, pending_at, quoted_behind, text_options};
 
 use kd_wire::Bytes;
 use std::alloc::{AllocError, Global};
@@ -43,7 +43,7 @@ const FORMS: &[Form] = &[
 // Returns a test that asks for the bytes of options in place of their texts (Kea Administrator Reference
 // Manual, Using Expressions in Classification). Each character keeps its place.
 pub(crate) fn asked_in_bytes(alloc: Global, text: &[u8]) -> Result<Bytes, AllocError>
-    ensures { IfOk result (λ it. it ≡ in_bytes text.now) }
+    ensures { IfOk result (λ it. it ≡ test_by_bytes text.now) }
 {
     let mut out = Vec::with_capacity(alloc, text.len())?;
     let mut scan = Scan {
