@@ -30,7 +30,7 @@ fn is_asked_by_any(classes: &[ClassEntry]) -> bool
 fn is_asked_in_any(subnets: &[Subnet]) -> bool
     ensures { result ≡ list_any is_subnet_of_clients subnets.now }
 {
-    subnets.iter().any(|subnet| is_asked_in(subnet))
+    subnets.iter().any(|subnet| is_asked_by_subnet(subnet))
 }
 
 // Reports whether a class may ask whether a client has a reservation.
@@ -73,7 +73,7 @@ fn begins_at(text: &[u8], at: usize) -> bool
 }
 
 // Reports whether a subnet asks whether a client has a reservation, or has one that gives classes.
-fn is_asked_in(subnet: &Subnet) -> bool
+fn is_asked_by_subnet(subnet: &Subnet) -> bool
     ensures { result ≡ is_subnet_of_clients subnet.now }
 {
     is_asked_among(subnet.classes.as_slice())
@@ -85,7 +85,7 @@ fn is_asked_in(subnet: &Subnet) -> bool
 fn is_asked_for_any(pools: &[Pool]) -> bool
     ensures { result ≡ list_any is_pool_of_clients pools.now }
 {
-    pools.iter().any(|pool| is_asked_for(pool))
+    pools.iter().any(|pool| is_asked_by_pool(pool))
 }
 
 // Reports whether one of these reservations gives classes.
@@ -98,7 +98,7 @@ fn is_any_giving(reservations: &[Reservation]) -> bool
 }
 
 // Reports whether a pool asks whether a client has a reservation.
-fn is_asked_for(pool: &Pool) -> bool
+fn is_asked_by_pool(pool: &Pool) -> bool
     ensures { result ≡ is_pool_of_clients pool.now }
 {
     is_asked_among(pool.classes.as_slice())

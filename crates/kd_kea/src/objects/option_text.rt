@@ -109,11 +109,11 @@ fn pending_in(quoted: bool, text: &[u8]) -> &'static [u8]
 fn pending_outside(text: &[u8]) -> &'static [u8]
     ensures { result.now ≡ drop 1 (in_bytes_at text.now) }
 {
-    behind_first(form_at(text))
+    behind_first(form_in_bytes(text))
 }
 
 // Returns what stands for the beginning of a text that asks for the text of an option, if it does.
-fn form_at(text: &[u8]) -> Option<&'static [u8]>
+fn form_in_bytes(text: &[u8]) -> Option<&'static [u8]>
     ensures { option_copied result
         ≡ lookup (starts_with nat_eq text.now) (map forms_for text_options) }
 {
