@@ -1,6 +1,6 @@
 -- The reservation for a client: the first for its hardware address or its identifier, or the one
--- for it by one kind of identity, and how it is found.
-use Rattle.std.specs.Prelude.{◌≡◌, ℕ, ◌==◌, min, Bool, false, ◌||◌, List, [], ◌∷◌, Option, Some, None}
+-- for it by one kind of identity, and how it is found; and what a reservation has.
+use Rattle.std.specs.Prelude.{◌≡◌, ℕ, ◌==◌, min, length, Bool, false, not, ◌||◌, List, [], ◌∷◌, Option, Some, None}
 use Rattle.std.specs.List.{position_from}
 use Rattle.std.specs.Str.{bytes_eq}
 use Rattle.kd_config.specs.declared.reservation.Identity.{Identity}
@@ -22,6 +22,14 @@ has_reserved a reservation = same_address reservation.address a
 abbrev pub listed : Option ℕ → List ℕ
 listed None = []
 listed (Some a) = a ∷ []
+
+-- a reservation has options
+abbrev pub has_options : Reservation → Bool
+has_options reservation = not (length reservation.options == 0)
+
+-- a reservation has a value for boot fields
+abbrev pub has_boots : Reservation → Bool
+has_boots reservation = not (length reservation.boots == 0)
 
 -- the client has these bytes, by this kind of identity
 abbrev pub is_client : IdentityKind → List ℕ → Identity → Bool

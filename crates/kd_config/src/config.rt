@@ -1,7 +1,7 @@
-ghost use Rattle.std.specs.Prelude.{◌≡◌, IfOk};
+ghost use Rattle.std.specs.Prelude.{◌≡◌, ◌||◌, IfOk};
 ghost use Rattle.std.specs.Option.{option_copied};
 ghost use Rattle.std.specs.List.{list_any};
-ghost use Rattle.kd_config.specs.Booted.{gives_boot, has_reservations, is_some_reserved};
+ghost use Rattle.kd_config.specs.Booted.{class_gives_boot, gives_boot, has_reservations, is_some_reserved};
 ghost use Rattle.kd_config.specs.Networks.{covers, home_of, network_at, part_holding};
 ghost use Rattle.kd_config.specs.Sound.{IsSound};
 ghost use Rattle.kd_config.specs.Term.{has_term};
@@ -31,6 +31,8 @@ pub struct Config {
     networks: Vec<Subnet>,
     // Whether a subnet gives anything to boot fields.
     boots: bool,
+    // Whether a class gives anything to them.
+    class_boots: bool,
     // Whether a subnet has a reservation.
     reserves: bool,
     // Whether a subnet has times of its own for leases.
@@ -40,7 +42,7 @@ pub struct Config {
 impl Model for Config {
     ghost use Rattle.std.specs.Prelude.{◌≡◌};
     ghost use Rattle.std.specs.List.{list_any};
-    ghost use Rattle.kd_config.specs.Booted.{gives_boot, has_reservations};
+    ghost use Rattle.kd_config.specs.Booted.{class_gives_boot, gives_boot, has_reservations};
     ghost use Rattle.kd_config.specs.Configuration.{Configuration};
     ghost use Rattle.kd_config.specs.Networks.{networks_in};
     ghost use Rattle.kd_config.specs.Sound.{IsSound};
@@ -66,6 +68,7 @@ impl Model for Config {
       subnets = c.subnets;
     }) × (c.networks.items ≡ networks_in c.subnets)
         × (c.boots ≡ list_any gives_boot c.subnets)
+        × (c.class_boots ≡ list_any class_gives_boot c.classes)
         × (c.reserves ≡ list_any has_reservations c.subnets)
         × (c.terms ≡ list_any has_term c.subnets) };
 }
@@ -104,6 +107,7 @@ impl Config {
     {
         let networks = networks_of(alloc, subnets.as_slice())?;
         let boots = has_boot(subnets.as_slice());
+        let class_boots = has_class_boot(&classes);
         let reserves = is_any_reserving(subnets.as_slice());
         let terms = is_any_timed(subnets.as_slice());
         Ok(Config {
@@ -115,6 +119,7 @@ impl Config {
             subnets,
             networks,
             boots,
+            class_boots,
             reserves,
             terms,
         })
@@ -167,6 +172,14 @@ impl Config {
         ensures sound { IsSound self.now }
     {
         self.subnets.as_slice()
+    }
+
+    /// Reports whether any subnet or class gives anything to boot fields.
+    pub fn gives_boots(&self) -> bool
+        ensures { result
+            ≡ (list_any gives_boot self.now.subnets || list_any class_gives_boot self.now.classes) }
+    {
+        self.boots || self.class_boots
     }
 
     /// Reports whether any subnet has a reservation.
@@ -256,6 +269,20 @@ fn has_boot(subnets: &[Subnet]) -> bool
     ensures { result ≡ list_any gives_boot subnets.now }
 {
     subnets.iter().any(|subnet| !subnet.boot.is_none())
+}
+
+// Reports whether one of these classes gives anything to boot fields.
+fn has_class_boot(classes: &Classes) -> bool
+    ensures { result ≡ list_any class_gives_boot classes.now }
+{
+    let mut found = false;
+    for i in 0..classes.len() {
+        match classes.def_at(i) {
+            Some(class) => found = found || !class.boot.is_none(),
+            None => unreachable!(),
+        }
+    }
+    found
 }
 
 // Reports whether one of these subnets has a reservation.

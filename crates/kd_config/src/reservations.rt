@@ -3,7 +3,7 @@ ghost use Rattle.std.specs.List.{find, list_any};
 ghost use Rattle.std.specs.Option.{option_copied, option_or};
 ghost use Rattle.indexmap.specs.IndexMap.{get_by};
 ghost use Rattle.kd_config.specs.Classed.{classes_admit};
-ghost use Rattle.kd_config.specs.Reservation.{AreAddresses, earlier, has_reserved, identified_by, is_client_if, listed, same_address};
+ghost use Rattle.kd_config.specs.Reservation.{AreAddresses, earlier, has_boots, has_options, has_reserved, identified_by, is_client_if, listed, same_address};
 ghost use Rattle.kd_config.specs.Rules.{reserved};
 
 use crate::classed::admits;
@@ -25,13 +25,18 @@ pub struct Reservations {
     clients: Clients,
     // For each reservation the index of the next one for its client, if there is one.
     next: Vec<Option<usize>>,
+    // Whether a reservation has options.
+    options: bool,
+    // Whether a reservation has a value for boot fields.
+    boots: bool,
 }
 
 impl Model for Reservations {
-    ghost use Rattle.std.specs.Prelude.{List, nat_eq};
+    ghost use Rattle.std.specs.Prelude.{◌≡◌, List, nat_eq};
+    ghost use Rattle.std.specs.List.{list_any};
     ghost use Rattle.indexmap.specs.IndexMap.{get_by};
     ghost use Rattle.kd_config.specs.Places.{AreFirst, AreNext};
-    ghost use Rattle.kd_config.specs.Reservation.{AreAddresses};
+    ghost use Rattle.kd_config.specs.Reservation.{AreAddresses, has_boots, has_options};
     ghost use Rattle.kd_config.specs.declared.reservation.Reservation.{Reservation};
 
     ghost Value = { List Reservation };
@@ -40,7 +45,9 @@ impl Model for Reservations {
 
     ghost invariant = { λ r. AreAddresses (λ a. get_by (nat_eq a) r.addresses) r.list.items
         × AreFirst r.clients 0 r.list.items
-        × AreNext 0 r.list.items r.next.items };
+        × AreNext 0 r.list.items r.next.items
+        × (r.options ≡ list_any has_options r.list.items)
+        × (r.boots ≡ list_any has_boots r.list.items) };
 }
 
 impl Reservations {
@@ -53,6 +60,8 @@ impl Reservations {
             addresses: IndexMap::new(alloc),
             clients: Clients::none(alloc),
             next: Vec::new(alloc),
+            options: false,
+            boots: false,
         }
     }
 
@@ -67,11 +76,15 @@ impl Reservations {
         let addresses = addresses_of(alloc, &list)?;
         let mut clients = Clients::none(alloc);
         let next = put_all(alloc, &mut clients, &list)?;
+        let options = is_any_with_options(&list);
+        let boots = is_any_with_boots(&list);
         Ok(Reservations {
             list,
             addresses,
             clients,
             next,
+            options,
+            boots,
         })
     }
 
@@ -80,6 +93,20 @@ impl Reservations {
         ensures { result.now ≡ self.now }
     {
         self.list.as_slice()
+    }
+
+    /// Reports whether any reservation has options.
+    pub fn gives_options(&self) -> bool
+        ensures { result ≡ list_any has_options self.now }
+    {
+        self.options
+    }
+
+    /// Reports whether any reservation has a value for boot fields.
+    pub fn gives_boots(&self) -> bool
+        ensures { result ≡ list_any has_boots self.now }
+    {
+        self.boots
     }
 
     /// Appends the addresses of the reservations that have one, in host order.
@@ -155,6 +182,24 @@ impl Reservations {
     {
         self.list.get(place)
     }
+}
+
+// Reports whether one of these reservations has options.
+fn is_any_with_options(reservations: &[Reservation]) -> bool
+    ensures { result ≡ list_any has_options reservations.now }
+{
+    reservations
+        .iter()
+        .any(|reservation| reservation.options.as_slice().len() != 0)
+}
+
+// Reports whether one of these reservations has a value for boot fields.
+fn is_any_with_boots(reservations: &[Reservation]) -> bool
+    ensures { result ≡ list_any has_boots reservations.now }
+{
+    reservations
+        .iter()
+        .any(|reservation| reservation.boots.as_slice().len() != 0)
 }
 
 // Appends the addresses of reservations.

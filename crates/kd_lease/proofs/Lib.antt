@@ -18,6 +18,7 @@ pub mod Reserved
 pub mod Served
 pub mod Single
 pub mod Strangers
+pub mod Ungiven
 pub mod Moves
 pub mod Valuing
 pub mod Withheld

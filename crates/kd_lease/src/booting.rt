@@ -1,6 +1,9 @@
-ghost use Rattle.std.specs.Prelude.{◌≡◌, ◌∷◌, [], Some};
+ghost use Rattle.std.specs.Prelude.{◌≡◌, ◌||◌, ◌∷◌, [], Some};
+ghost use Rattle.std.specs.List.{list_any};
 ghost use Rattle.std.specs.Option.{option_copied};
-ghost use Rattle.kd_classes.specs.Boot.{boot_or, first_boot};
+ghost use Rattle.kd_classes.specs.Boot.{boot_or, first_boot, no_boot};
+ghost use Rattle.kd_config.specs.Booted.{class_gives_boot, gives_boot};
+ghost use Rattle.kd_config.specs.Reservation.{has_boots};
 ghost use Rattle.kd_lease.specs.Booting.{boots_given, class_boots, fields_in, boots_reserved, fields_of, reply_fields, reserved_boots};
 ghost use Rattle.kd_lease.specs.Rules.{asking, serving_subnet};
 
@@ -33,7 +36,7 @@ pub(crate) fn fields_for(question: &Question<'_>, kind: PlanKind, yiaddr: u32) -
         PlanKind::Offer => fields_at(question, yiaddr),
         PlanKind::Ack => fields_at(question, yiaddr),
         PlanKind::InformAck => fields_at(question, question.message.header().ciaddr),
-        PlanKind::Nak => fields_from(Boot::none()),
+        PlanKind::Nak => zero_fields(),
     }
 }
 
@@ -42,9 +45,32 @@ fn fields_at(question: &Question<'_>, address: u32) -> BootFields
     ensures { let q = asking question.now in result ≡ fields_in q (serving_subnet q) address }
 {
     match question.subnet {
-        Some(subnet) => fields_from(boot_at_address(question, subnet, address)),
-        None => fields_from(Boot::none()),
+        Some(subnet) => fields_within(question, subnet, address),
+        None => zero_fields(),
     }
+}
+
+// Returns the boot fields at an address of the subnet that serves a message. Nothing is searched if they
+// are zeros for every client of the subnet.
+fn fields_within(question: &Question<'_>, subnet: &Subnet, address: u32) -> BootFields
+    requires { serving_subnet (asking question.now) ≡ Some subnet.now }
+    ensures { result ≡ fields_in (asking question.now) (Some subnet.now) address }
+{
+    if may_give_boots(question.config, subnet) {
+        fields_from(boot_at_address(question, subnet, address))
+    } else {
+        zero_fields()
+    }
+}
+
+// Reports whether a part of the configuration or of a subnet gives anything to boot fields.
+fn may_give_boots(config: &Config, subnet: &Subnet) -> bool
+    ensures { result
+        ≡ ((list_any gives_boot config.now.subnets
+        || list_any class_gives_boot config.now.classes)
+        || (list_any has_boots subnet.now.reservations || gives_boot subnet.now)) }
+{
+    config.gives_boots() || (subnet.reservations.gives_boots() || !subnet.boot.is_none())
 }
 
 // Returns what is given to the boot fields at an address of the subnet that serves a message.
@@ -61,6 +87,17 @@ fn boot_at_address(question: &Question<'_>, subnet: &Subnet, address: u32) -> Bo
         ..
     } = *question;
     boot_of_client(config, names, subnet, message, address).or(boot_with(question, subnet, address))
+}
+
+// Returns fields that are zeros.
+fn zero_fields() -> BootFields
+    ensures { result ≡ fields_of no_boot }
+{
+    BootFields {
+        siaddr: 0,
+        sname: [0; 64],
+        file: [0; 128],
+    }
 }
 
 // Returns the fields of a reply with these values.

@@ -205,7 +205,9 @@ fn is_value(bytes: &Bytes, value: Option<&[u8]>) -> bool
 }
 
 /// Returns the options of the reservation that counts for the reply to a message with an address, in
-/// host order; none if there is no such reservation.
+/// host order; none if there is no such reservation. None is searched in a subnet whose reservations have
+/// no options.
+#[tactic(auto, using(crate::proofs::Ungiven::no_reserved_options))]
 pub fn reservation_options<'a>(
     config: &Config,
     names: &Held,
@@ -215,6 +217,9 @@ pub fn reservation_options<'a>(
 ) -> &'a [OptionData]
     ensures { result.now ≡ reserved_options config.now names.now message.now subnet.now address }
 {
+    if !subnet.reservations.gives_options() {
+        return &[];
+    }
     match reservation_for(config, names, message, subnet, address) {
         Some(reservation) => reservation.options.as_slice(),
         None => &[],
