@@ -6,7 +6,7 @@ use Rattle.kd_check.specs.Lookup.{value_under}
 use Rattle.kd_check.specs.Mark.{line_numbered, place_lines}
 use Rattle.kd_check.specs.Place.{path_place}
 use Rattle.kd_check.specs.Report.{IsValueLine, path_title, place_title, said_line, said_of}
-use Rattle.kd_json.specs.Document.{value_spelled}
+use Rattle.kd_fields.specs.Text.{value_spelled}
 
 -- the number of the line that a place is in, counted from 1
 abbrev pub row_at_place : List ℕ → ℕ → ℕ

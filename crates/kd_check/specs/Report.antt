@@ -8,7 +8,7 @@ use Rattle.kd_check.specs.Mark.{line_numbered, place_lines}
 use Rattle.kd_check.specs.Words.{test_place, test_words, tokens_words}
 use Rattle.kd_classes.specs.declared.fault.ClassFault.{ClassFault}
 use Rattle.kd_classes.specs.declared.fault.ClassFault.TheVariants as classes
-use Rattle.kd_json.specs.Document.{value_spelled}
+use Rattle.kd_fields.specs.Text.{value_spelled}
 use Rattle.kd_json.specs.declared.fault.ConfigFault.{ConfigFault}
 use Rattle.kd_json.specs.declared.fault.ConfigFault.TheVariants as faults
 use Rattle.kd_json.specs.declared.fault.FileTestFault.{FileTestFault}

@@ -1,7 +1,7 @@
 ghost use Rattle.std.specs.Prelude.{◌≡◌, ◌++◌, IfOk, OnOk, codes, option_map, string_bytes, Option, ℕ};
 ghost use Rattle.kd_check.specs.Lookup.{class_text, class_title, file_title};
 ghost use Rattle.kd_check.specs.Report.{class_line, said_line, test_report, tokens_line};
-ghost use Rattle.kd_json.specs.Document.{value_spelled};
+ghost use Rattle.kd_fields.specs.Text.{value_spelled};
 ghost use Rattle.serde_json.specs.View.{view};
 
 use crate::line::line_about;

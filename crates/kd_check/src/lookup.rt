@@ -1,5 +1,5 @@
 ghost use Rattle.std.specs.Prelude.{◌≡◌, IfOk, option_map, codes};
-ghost use Rattle.kd_json.specs.Document.{value_spelled};
+ghost use Rattle.kd_fields.specs.Text.{value_spelled};
 ghost use Rattle.kd_check.specs.Lookup.{class_text, class_value, value_under};
 ghost use Rattle.serde_json.specs.View.{view};
 
@@ -7,7 +7,7 @@ use serde_json::Value;
 use std::alloc::{AllocError, Global};
 
 // Parses the value of a text, if it is JSON in UTF-8.
-#[tactic(auto, using(kd_json::proofs::Documents::spelled, kd_json::proofs::Documents::not_spelled))]
+#[tactic(auto, using(kd_fields::proofs::Documents::spelled, kd_fields::proofs::Documents::not_spelled))]
 pub(crate) fn spelled_value(alloc: Global, text: &[u8]) -> Result<Option<Value>, AllocError>
     ensures { IfOk result (λ value. option_map view value ≡ value_spelled text.now) }
 {

@@ -1,7 +1,7 @@
 ghost use Rattle.std.specs.Prelude.{◌≡◌, IfOk, string_bytes};
 ghost use Rattle.std.specs.Str.{is_utf8};
 ghost use Rattle.kd_check.specs.Report.{IsJsonReport, IsUnreadReport, place_title, unread_words};
-ghost use Rattle.kd_json.specs.Document.{value_spelled};
+ghost use Rattle.kd_fields.specs.Text.{value_spelled};
 
 use crate::line::{line_about, line_of_all};
 use crate::mark::{line_at, put_place};
@@ -9,7 +9,7 @@ use serde_json::{Error, Value};
 use std::alloc::{AllocError, Global};
 
 // Reports a text that was refused as not JSON.
-#[tactic(auto, using(kd_json::proofs::Documents::spelled, kd_json::proofs::Documents::not_spelled))]
+#[tactic(auto, using(kd_fields::proofs::Documents::spelled, kd_fields::proofs::Documents::not_spelled))]
 pub(crate) fn json_report_in(alloc: Global, name: &str, text: &[u8]) -> Result<String, AllocError>
     ensures { IfOk result
         (λ report. IsJsonReport name.now text.now (value_spelled text.now) (string_bytes report)) }

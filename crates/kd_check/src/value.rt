@@ -1,6 +1,6 @@
 ghost use Rattle.std.specs.Prelude.{◌≡◌, ◌++◌, IfOk, OnOk, option_map, string_bytes};
 ghost use Rattle.kd_check.specs.Report.{IsPathLine, IsShownAfter, IsValueLine, cut_text, path_title};
-ghost use Rattle.kd_json.specs.Document.{value_spelled};
+ghost use Rattle.kd_fields.specs.Text.{value_spelled};
 ghost use Rattle.serde_json.specs.View.{view};
 
 use crate::line::line_start;

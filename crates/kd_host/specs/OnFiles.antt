@@ -23,9 +23,9 @@ use Rattle.kd_database.specs.Stops.{LiesBelow}
 use Rattle.kd_database.specs.Stores.{IsNoStoreIn, IsStoreIn, StandsAsHeld, StandsNew}
 use Rattle.kd_trouble.specs.Faults.{start_fault_number}
 use Rattle.kd_io.specs.Looking.{IsCopyFault}
-use Rattle.kd_start.specs.KeaWords.{AreKeaRemarks, AreKeaStartWords}
+use Rattle.kd_reports.specs.KeaWords.{AreKeaRemarks, AreKeaStartWords}
 use Rattle.kd_start.specs.Start.{IsNoStartOfFiles, IsNoStartOfKeaFile, IsOfFiles, IsOfKeaFile}
-use Rattle.kd_start.specs.Words.{AreStartWords}
+use Rattle.kd_reports.specs.Words.{AreStartWords}
 use Rattle.kd_io.specs.declared.link.Sending.{Sending}
 use Rattle.kd_io.specs.declared.system.System.{Ghosts as Systems}
 use Rattle.kd_io.specs.declared.look.LookFault.{LookFault}

@@ -12,11 +12,9 @@ use kd_io::{
 use kd_keeps::{Cause, Opened, StoreFault, Volatile};
 use kd_loops::EndFailed;
 use kd_program::Host;
+use kd_reports::{kea_remarks, kea_start_words, start_words};
 use kd_rows::Row;
-use kd_start::{
-    configuration, kea_configuration, kea_remarks, kea_start_words, start_words, try_database,
-    try_socket,
-};
+use kd_start::{configuration, kea_configuration, try_database, try_socket};
 use kd_store::Store;
 use kd_trouble::{SocketTrouble, StartFault, StoreTrouble};
 use sqlite::{FileFrom, FileStore, Start};

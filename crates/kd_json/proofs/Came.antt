@@ -7,9 +7,9 @@ use Rattle.serde_json.specs.Data.{Data, Items, no_items, item}
 use Rattle.serde_json.specs.Events.{items_len}
 use Rattle.serde_json.specs.Find.{as_array}
 use Rattle.kd_config.proofs.Tests.{some_is}
-use Rattle.kd_json.specs.Lists.{all_of, items_or_none, list_of}
+use Rattle.kd_fields.specs.Lists.{all_of, items_or_none, list_of}
 use Rattle.kd_wire.specs.Steps.{◌>>=◌}
-use Rattle.kd_json.specs.Steps.{must, only_if}
+use Rattle.kd_fields.specs.Steps.{must, only_if}
 
 -- what a result came from
 pub record Came {A B : Type 0} (o : Option A) (f : A → Option B) (b : B) : Type 0 where

@@ -8,7 +8,7 @@ use Rattle.kd_json.specs.declared.rules.reservations.ClientKey.{ClientKey}
 use Rattle.kd_json.specs.declared.rules.reservations.ClientKey.TheVariants.{Hardware, Duid, Circuit, ClientId}
 use Rattle.kd_config.specs.Rules.{is_new, same_identity}
 use Rattle.kd_config.specs.declared.reservation.Identity.{Identity}
-use Rattle.kd_json.specs.Steps.{must}
+use Rattle.kd_fields.specs.Steps.{must}
 
 -- two keys are equal
 abbrev are_equal : ClientKey → ClientKey → Bool

@@ -11,10 +11,11 @@ use Rattle.kd_json.proofs.Shared.{must_failed, must_passed}
 use Rattle.kd_config.specs.Address.{has_address}
 use Rattle.kd_config.specs.Reservation.{listed}
 use Rattle.kd_json.specs.Faults.{config_fault_number, fault_path}
-use Rattle.kd_json.specs.FirstFault.{PoolFails, ReservationFails, client_key, lies_in, path_below, wrong_key}
+use Rattle.kd_json.specs.FirstFault.{PoolFails, ReservationFails, client_key, lies_in, wrong_key}
+use Rattle.kd_fields.specs.Place.{path_below}
 use Rattle.kd_json.specs.Parts.{lie_and_fit}
 use Rattle.kd_config.specs.Rules.{is_new, lies_within, may_all_reserve, may_have, may_reserve, reserved}
-use Rattle.kd_json.specs.Steps.{must}
+use Rattle.kd_fields.specs.Steps.{must}
 use Rattle.kd_json.specs.declared.fault.ConfigFault.{ConfigFault}
 use Rattle.kd_config.specs.declared.pool.Pool.{Pool}
 use Rattle.kd_config.specs.declared.prefix.Prefix.{Prefix}

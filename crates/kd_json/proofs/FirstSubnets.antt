@@ -11,10 +11,11 @@ use Rattle.kd_config.proofs.Tests.{both_passed, not_and, or_false, some_is}
 use Rattle.kd_json.proofs.FirstFaults.{cut_at_place, one_more_at}
 use Rattle.kd_json.proofs.Shared.{must_failed, must_passed, one_more}
 use Rattle.kd_config.specs.Apart.{lie_apart, share_one}
-use Rattle.kd_json.specs.FirstFault.{PoolFails, ReservationFails, SubnetFails, SubnetsFail, all_reserved, in_network, path_below, subnet_path, subnets_path, with_pools, with_reservations}
+use Rattle.kd_json.specs.FirstFault.{PoolFails, ReservationFails, SubnetFails, SubnetsFail, all_reserved, in_network, subnet_path, subnets_path, with_pools, with_reservations}
+use Rattle.kd_fields.specs.Place.{path_below}
 use Rattle.kd_json.specs.Parts.{lie_and_fit, obey_within, obeys_within}
 use Rattle.kd_config.specs.Rules.{all_obey, lies_within, may_all_reserve, may_stand, obeys, pool_ranges, ranges_in, reserved}
-use Rattle.kd_json.specs.Steps.{must}
+use Rattle.kd_fields.specs.Steps.{must}
 use Rattle.kd_json.specs.declared.fault.ConfigFault.{ConfigFault}
 use Rattle.kd_config.specs.declared.pool.Pool.{Pool}
 use Rattle.kd_config.specs.declared.prefix.Prefix.{Prefix}

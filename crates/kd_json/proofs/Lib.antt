@@ -1,7 +1,5 @@
 pub mod Blocks
-pub mod Keys
 pub mod Left
-pub mod Documents
 pub mod Clients
 pub mod Steps
 pub mod Alike

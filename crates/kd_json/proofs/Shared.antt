@@ -5,7 +5,7 @@ use Rattle.std.proofs.lemmas.List.{length-append}
 use Rattle.kd_config.specs.Apart.{lie_apart}
 use Rattle.kd_json.specs.Parts.{obey_within, obeys_within}
 use Rattle.kd_config.specs.Rules.{all_obey, pool_ranges, obeys, ranges_in, reserved}
-use Rattle.kd_json.specs.Steps.{must}
+use Rattle.kd_fields.specs.Steps.{must}
 use Rattle.kd_config.specs.declared.pool.Pool.{Pool}
 use Rattle.kd_config.specs.declared.range.Range.{Range}
 use Rattle.kd_config.specs.declared.subnet.Subnet.{Subnet}

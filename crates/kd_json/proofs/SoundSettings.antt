@@ -12,10 +12,12 @@ use Rattle.kd_config.proofs.Tests.{some_is, both_passed}
 use Rattle.kd_json.proofs.Came.{came_from, passed, passed_only, few_meant, each_meant}
 use Rattle.kd_json.proofs.Sounds.{bytes_sound, options_sound, prefix_sound, spelled_rise, times_sound}
 use Rattle.kd_json.specs.Address.{addresses_spelled, prefix_spelled}
-use Rattle.kd_json.specs.Class.{class_of, has_class_keys, class_name_in, test_source_in}
+use Rattle.kd_json.specs.Class.{class_of, has_class_keys, test_source_in}
+use Rattle.kd_fields.specs.Values.{class_name_in}
 use Rattle.kd_json.specs.Configured.{AreDefinitions}
-use Rattle.kd_json.specs.Document.{accepted, accepted_settings, value_spelled, settings_spelled}
-use Rattle.kd_json.specs.Lists.{list_of}
+use Rattle.kd_json.specs.Document.{accepted, accepted_settings, settings_spelled}
+use Rattle.kd_fields.specs.Text.{value_spelled}
+use Rattle.kd_fields.specs.Lists.{list_of}
 use Rattle.kd_json.specs.Options.{option_list_in}
 use Rattle.kd_json.specs.Sound.{AreSettings, IsEntry}
 use Rattle.kd_json.specs.Pool.{has_pool_keys, pool_addresses, pool_of, pool_range}
@@ -24,7 +26,7 @@ use Rattle.kd_config.specs.Rules.{may_stand}
 use Rattle.kd_json.specs.Settings.{has_dhcp4_keys, has_root_keys, whole_settings, server_given, dhcp4_settings, settings_with, times_given}
 use Rattle.kd_config.specs.Sound.{AreOptions, IsBoot, IsClass, IsFrom, IsIdentity, IsLifetime, IsPool, IsPrefix, IsRange, IsReservation, IsSound, IsSubnet}
 use Rattle.kd_json.specs.Subnet.{has_subnet_keys, subnet_prefix, subnet_of, subnet_with}
-use Rattle.kd_json.specs.Values.{address_given, hex_bytes_in, bytes_if_given, number_if_given, text_if_given}
+use Rattle.kd_fields.specs.Values.{address_given, hex_bytes_in, bytes_if_given, number_if_given, text_if_given}
 use Rattle.kd_json.specs.declared.objects.class.ClassEntry.{ClassEntry}
 use Rattle.kd_config.specs.declared.pool.Pool.{Pool}
 use Rattle.kd_config.specs.declared.prefix.Prefix.{Prefix}

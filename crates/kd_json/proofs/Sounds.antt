@@ -13,15 +13,16 @@ use Rattle.kd_json.proofs.Blocks.{cleared_within}
 use Rattle.kd_config.proofs.Tests.{some_is, both_passed}
 use Rattle.kd_json.proofs.Came.{Came, came_from, passed, passed_only, seen_from, few_items}
 use Rattle.kd_config.specs.Address.{network_address, prefix_size}
-use Rattle.kd_json.specs.Address.{address_spelled, addresses_by, addresses_from, addresses_of_parts, addresses_spelled, parts_at, length_spelled, short_decimal, prefix_addresses, prefix_spelled, after_spaces, before_spaces}
-use Rattle.kd_json.specs.HexText as hex
+use Rattle.kd_fields.specs.Address.{address_spelled}
+use Rattle.kd_json.specs.Address.{addresses_by, addresses_from, addresses_of_parts, addresses_spelled, parts_at, length_spelled, short_decimal, prefix_addresses, prefix_spelled, after_spaces, before_spaces}
+use Rattle.kd_fields.specs.HexText as hex
 use Rattle.kd_config.specs.Options.{code_among, own_codes}
 use Rattle.kd_json.specs.Options.{code_given, has_option_keys, option_after, options_behind, option_list_in}
-use Rattle.kd_json.specs.Lists.{items_or_none}
+use Rattle.kd_fields.specs.Lists.{items_or_none}
 use Rattle.kd_config.specs.Sound.{longest_lease}
 use Rattle.kd_json.specs.Settings.{times_given}
 use Rattle.kd_config.specs.Sound.{AreOptions, AreTimes, HaveOwnCodes, IsFrom, IsOption, IsPrefix}
-use Rattle.kd_json.specs.Values.{hex_bytes_in, number_within, number_if_given}
+use Rattle.kd_fields.specs.Values.{hex_bytes_in, number_within, number_if_given}
 use Rattle.kd_config.specs.declared.prefix.Prefix.{Prefix}
 use Rattle.kd_config.specs.declared.range.Range.{Range}
 use Rattle.kd_config.specs.declared.times.Times.{Times}

@@ -15,8 +15,8 @@ use Rattle.kd_json.specs.declared.fault.ConfigFault.TheVariants as faults
 use Rattle.kd_json.specs.declared.objects.class.ClassEntry.{ClassEntry}
 use Rattle.kd_json.specs.declared.objects.faults.ClassesFault.{ClassesFault}
 use Rattle.kd_json.specs.declared.objects.faults.ClassesFault.TheVariants as classes
-use Rattle.kd_json.specs.declared.objects.faults.SettingsFault.{SettingsFault}
-use Rattle.kd_json.specs.declared.objects.faults.SettingsFault.TheVariants as settings
+use Rattle.kd_fields.specs.declared.faults.SettingsFault.{SettingsFault}
+use Rattle.kd_fields.specs.declared.faults.SettingsFault.TheVariants as settings
 use Rattle.kd_json.specs.declared.objects.settings.Settings.{Settings}
 use Rattle.kd_config.specs.declared.subnet.Subnet.{Subnet}
 use Rattle.kd_json.specs.declared.token_file.TokenFile.{TokenFile}

@@ -1,18 +1,14 @@
 -- The texts of addresses: an IPv4 address as a number, a prefix `address/length`, and a pool, which
 -- is `first - last` or a prefix.
 use Rattle.std.specs.Prelude.{ℕ, ◌+◌, ◌-◌, ◌*◌, ◌&&◌, ◌==◌, nat_le, if◌then◌else◌, List, [], ◌∷◌, reverse, Option, Some, None, option_map, option_and_then}
-use Rattle.std.specs.Int.{from_be_bytes, w32}
 use Rattle.kd_config.specs.Address.{network_address, prefix_size}
 use Rattle.kd_config.specs.declared.prefix.Prefix.{Prefix}
 use Rattle.kd_config.specs.declared.range.Range.{Range}
 use Rattle.kd_expr.specs.Address.{a_digit}
 use Rattle.kd_expr.specs.Lexing as lexing
 use Rattle.kd_expr.specs.Lexing.{behind_of}
+use Rattle.kd_fields.specs.Address.{address_spelled}
 use Rattle.kd_wire.specs.Steps.{◌>>=◌}
-
--- the address that a text gives, as a number
-unfoldable pub address_spelled : List ℕ → Option ℕ
-address_spelled text = option_map (from_be_bytes w32) (lexing.address_read text)
 
 -- the texts before and after the first occurrence of a byte
 abbrev pub parts_at : ℕ → List ℕ → Option (List ℕ × List ℕ)

@@ -1,12 +1,12 @@
 -- A client class: a name, a test as text or the name of a token file, and options.
-use Rattle.std.specs.Prelude.{ℕ, Bool, ◌&&◌, nat_le, List, [], ◌∷◌, length, codes, Option, Some, None}
+use Rattle.std.specs.Prelude.{ℕ, Bool, List, [], ◌∷◌, codes, Option, Some, None}
 use Rattle.serde_json.specs.Data.{Data}
-use Rattle.serde_json.specs.Find.{as_str, get}
+use Rattle.serde_json.specs.Find.{get}
 use Rattle.kd_classes.specs.Boot.{no_boot}
 use Rattle.kd_json.specs.Options.{option_list_in}
 use Rattle.kd_wire.specs.Steps.{◌>>=◌}
-use Rattle.kd_json.specs.Steps.{must, only_if}
-use Rattle.kd_json.specs.Values.{has_keys, text_if_given}
+use Rattle.kd_fields.specs.Steps.{must}
+use Rattle.kd_fields.specs.Values.{class_name_in, has_keys, text_if_given}
 use Rattle.kd_json.specs.declared.objects.class.ClassEntry.{ClassEntry}
 use Rattle.kd_json.specs.declared.objects.class.TestSource.{TestSource}
 use Rattle.kd_json.specs.declared.objects.class.TestSource.TheVariants.{Nothing, Expression, TokenFile}
@@ -16,12 +16,6 @@ unfoldable pub has_class_keys : Data → Bool
 has_class_keys d =
     has_keys (codes "name" ∷ codes "test" ∷ codes "tokens" ∷ codes "option-data" ∷ [])
     (codes "name" ∷ []) d
-
--- the name of a class: 1 to 255 bytes
-unfoldable pub class_name_in : Data → Option (List ℕ)
-class_name_in d = do
-  name ← as_str d
-  only_if (nat_le 1 (length name) && nat_le (length name) 255) name
 
 -- a test is given as text or by a token file, but not both
 abbrev pub test_source : Option (List ℕ) → Option (List ℕ) → Option TestSource

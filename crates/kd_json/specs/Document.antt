@@ -1,17 +1,11 @@
--- The text of a configuration: JSON in UTF-8, and the settings that it describes.
-use Rattle.std.specs.Prelude.{ℕ, if◌then◌else◌, List, Option, Some, None}
-use Rattle.std.specs.Str.{is_utf8}
-use Rattle.serde_json.specs.Data.{Data}
-use Rattle.serde_json.specs.Read as json
+-- The settings that the text of a configuration describes.
+use Rattle.std.specs.Prelude.{ℕ, List, Option, Some}
 use Rattle.kd_config.specs.Rules.{may_stand}
 use Rattle.kd_json.specs.Settings.{whole_settings}
 use Rattle.kd_wire.specs.Steps.{◌>>=◌}
-use Rattle.kd_json.specs.Steps.{must}
+use Rattle.kd_fields.specs.Steps.{must}
+use Rattle.kd_fields.specs.Text.{value_spelled}
 use Rattle.kd_json.specs.declared.objects.settings.Settings.{Settings}
-
--- the value that a text spells
-unfoldable pub value_spelled : List ℕ → Option Data
-value_spelled text = if is_utf8 text then json.read text else None
 
 -- the settings that a text describes
 unfoldable pub settings_spelled : List ℕ → Option Settings

@@ -5,6 +5,7 @@ use Rattle.std.specs.Prelude.{◌≡◌, ◌⊎◌, ℕ, ◌+◌, Bool, true, fa
 use Rattle.std.specs.Fmt.{decimal}
 use Rattle.std.specs.List.{flat_map}
 use Rattle.kd_config.specs.Address.{has_address}
+use Rattle.kd_fields.specs.Place.{path_below}
 use Rattle.kd_json.specs.Document.{accepted, settings_spelled}
 use Rattle.kd_json.specs.Faults.{config_fault_number, fault_path}
 use Rattle.kd_config.specs.Rules.{lies_within, may_reserve, may_stand, reserved}
@@ -17,10 +18,6 @@ use Rattle.kd_config.specs.declared.reservation.Identity.{Identity}
 use Rattle.kd_config.specs.declared.reservation.Identity.TheVariants as clients
 use Rattle.kd_config.specs.declared.reservation.Reservation.{Reservation}
 use Rattle.kd_config.specs.declared.subnet.Subnet.{Subnet}
-
--- the path of a key, or of an index in a list, below a path
-abbrev pub path_below : List ℕ → List ℕ → List ℕ
-path_below path key = path ++ 47 ∷ key
 
 -- the key that a client is given at
 abbrev pub client_key : Identity → List ℕ

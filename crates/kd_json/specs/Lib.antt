@@ -1,10 +1,5 @@
-pub mod Steps
 pub mod Address
-pub mod HexText
-pub mod Gives
 pub mod Faults
-pub mod Values
-pub mod Lists
 pub mod Options
 pub mod Pool
 pub mod Reservation

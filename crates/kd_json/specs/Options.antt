@@ -5,9 +5,9 @@ use Rattle.serde_json.specs.Data.{Data, Items, no_items, item}
 use Rattle.serde_json.specs.Find.{as_bool, get}
 use Rattle.kd_classes.specs.declared.option_list.OptionData.{OptionData}
 use Rattle.kd_config.specs.Options.{code_among, own_codes}
-use Rattle.kd_json.specs.Lists.{items_or_none}
-use Rattle.kd_json.specs.Steps.{must, only_if}
-use Rattle.kd_json.specs.Values.{hex_bytes_in, has_keys, number_within}
+use Rattle.kd_fields.specs.Lists.{items_or_none}
+use Rattle.kd_fields.specs.Steps.{must, only_if}
+use Rattle.kd_fields.specs.Values.{hex_bytes_in, has_keys, number_within}
 use Rattle.kd_wire.specs.Steps.{◌>>=◌}
 
 -- the keys of option data

@@ -1,35 +1,21 @@
--- Helpers of private contracts: keys as borrowed texts, clients as borrowed bytes, subnets whose
--- pools are apart up to a number, and the faults of parts of a configuration.
-use Rattle.std.specs.Prelude.{ℕ, Bool, ◌&&◌, List, [], ◌∷◌, ◌++◌, length, bytes_eq, is_some, nat_le}
-use Rattle.std.specs.Borrow.{Bor}
-use Rattle.std.specs.Fmt.{decimal}
-use Rattle.std.specs.List.{list_all, list_any}
-use Rattle.serde_json.specs.Data.{Data}
-use Rattle.serde_json.specs.Find.{get}
+-- Helpers of private contracts: clients as borrowed bytes, subnets whose pools are apart up to a
+-- number, and the faults of parts of a configuration.
+use Rattle.std.specs.Prelude.{ℕ, Bool, ◌&&◌, List, length, nat_le}
+use Rattle.std.specs.List.{list_all}
 use Rattle.kd_config.specs.Rules.{all_obey, lies_within, obeys, pool_ranges}
 use Rattle.kd_json.specs.declared.fault.ConfigFault.{ConfigFault}
 use Rattle.kd_json.specs.declared.fault.ConfigFault.TheVariants as faults
 use Rattle.kd_json.specs.declared.objects.faults.ClassesFault.{ClassesFault}
 use Rattle.kd_json.specs.declared.objects.faults.ClassesFault.TheVariants as classes
-use Rattle.kd_json.specs.declared.objects.faults.SettingsFault.{SettingsFault}
-use Rattle.kd_json.specs.declared.objects.faults.SettingsFault.TheVariants as settings
+use Rattle.kd_fields.specs.declared.faults.SettingsFault.{SettingsFault}
+use Rattle.kd_fields.specs.declared.faults.SettingsFault.TheVariants as settings
 use Rattle.kd_config.specs.declared.pool.Pool.{Pool}
 use Rattle.kd_config.specs.declared.prefix.Prefix.{Prefix}
 use Rattle.kd_config.specs.declared.reservation.Identity.{Identity}
 use Rattle.kd_config.specs.declared.reservation.Identity.TheVariants as clients
 use Rattle.kd_json.specs.declared.rules.reservations.ClientKey.{ClientKey}
 use Rattle.kd_json.specs.declared.rules.reservations.ClientKey.TheVariants as client_keys
-use Rattle.kd_json.specs.declared.rules.place.Place.{Place}
-use Rattle.kd_json.specs.declared.rules.place.Place.TheVariants as places
 use Rattle.kd_config.specs.declared.subnet.Subnet.{Subnet}
-
--- a key is one of these
-abbrev pub is_one_of : List (Bor (List ℕ)) → List ℕ → Bool
-is_one_of known key = list_any (λ k. bytes_eq key k.now) known
-
--- a value has this key
-abbrev pub is_there : Data → Bor (List ℕ) → Bool
-is_there d key = is_some (get key.now d)
 
 -- the client with these bytes, by the same kind of identity
 abbrev pub client_by : ClientKey → Identity
@@ -66,9 +52,3 @@ classes_fault (classes.Expression number why) = faults.Expression number why
 classes_fault (classes.Tokens number why) = faults.Tokens number why
 classes_fault (classes.Class why) = faults.Class why
 classes_fault classes.Memory = faults.Memory
-
--- the path of a place: the keys and indexes from the root, each after `/`
-abbrev pub path_at : Place → List ℕ
-path_at places.Root = []
-path_at (places.Key' p above key) = path_at above ++ 47 ∷ key.now
-path_at (places.Item' p above number) = path_at above ++ 47 ∷ decimal number

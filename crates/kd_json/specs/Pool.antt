@@ -5,8 +5,8 @@ use Rattle.serde_json.specs.Find.{as_str, get}
 use Rattle.kd_json.specs.Address.{addresses_spelled}
 use Rattle.kd_json.specs.Options.{option_list_in}
 use Rattle.kd_wire.specs.Steps.{◌>>=◌}
-use Rattle.kd_json.specs.Steps.{must, only_if}
-use Rattle.kd_json.specs.Values.{has_keys}
+use Rattle.kd_fields.specs.Steps.{must, only_if}
+use Rattle.kd_fields.specs.Values.{has_keys}
 use Rattle.kd_config.specs.declared.pool.Pool.{Pool}
 use Rattle.kd_config.specs.declared.range.Range.{Range}
 

@@ -5,8 +5,8 @@ use Rattle.serde_json.specs.Find.{get}
 use Rattle.kd_config.specs.declared.reservation.Identity.{Identity}
 use Rattle.kd_config.specs.declared.reservation.Identity.TheVariants.{Hardware, ClientId}
 use Rattle.kd_config.specs.declared.reservation.Reservation.{Reservation}
-use Rattle.kd_json.specs.Steps.{must}
-use Rattle.kd_json.specs.Values.{address_given, bytes_if_given, has_keys}
+use Rattle.kd_fields.specs.Steps.{must}
+use Rattle.kd_fields.specs.Values.{address_given, bytes_if_given, has_keys}
 use Rattle.kd_wire.specs.Steps.{◌>>=◌}
 
 -- a value is an object with the keys of a reservation

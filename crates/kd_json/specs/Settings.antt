@@ -5,12 +5,12 @@ use Rattle.serde_json.specs.Find.{get}
 use Rattle.kd_config.specs.Configuration.{no_extensions}
 use Rattle.kd_config.specs.Sound.{longest_lease}
 use Rattle.kd_json.specs.Class.{class_of}
-use Rattle.kd_json.specs.Lists.{list_of}
+use Rattle.kd_fields.specs.Lists.{list_of}
 use Rattle.kd_json.specs.Options.{option_list_in}
 use Rattle.kd_wire.specs.Steps.{◌>>=◌}
-use Rattle.kd_json.specs.Steps.{must, only_if}
+use Rattle.kd_fields.specs.Steps.{must, only_if}
 use Rattle.kd_json.specs.Subnet.{subnet_of}
-use Rattle.kd_json.specs.Values.{address_given, has_keys, number_if_given}
+use Rattle.kd_fields.specs.Values.{address_given, has_keys, number_if_given}
 use Rattle.kd_json.specs.declared.objects.settings.Settings.{Settings}
 use Rattle.kd_config.specs.declared.times.Times.{Times}
 

@@ -4,13 +4,13 @@ use Rattle.serde_json.specs.Data.{Data}
 use Rattle.serde_json.specs.Find.{as_str, get}
 use Rattle.kd_classes.specs.Boot.{no_boot}
 use Rattle.kd_json.specs.Address.{prefix_spelled}
-use Rattle.kd_json.specs.Lists.{list_of}
+use Rattle.kd_fields.specs.Lists.{list_of}
 use Rattle.kd_json.specs.Options.{option_list_in}
 use Rattle.kd_json.specs.Pool.{pool_of}
 use Rattle.kd_json.specs.Reservation.{reservation_of}
 use Rattle.kd_wire.specs.Steps.{◌>>=◌}
-use Rattle.kd_json.specs.Steps.{must}
-use Rattle.kd_json.specs.Values.{has_keys, number_if_given, text_if_given}
+use Rattle.kd_fields.specs.Steps.{must}
+use Rattle.kd_fields.specs.Values.{has_keys, number_if_given, text_if_given}
 use Rattle.kd_config.specs.Classed.{class_list}
 use Rattle.kd_config.specs.declared.prefix.Prefix.{Prefix}
 use Rattle.kd_config.specs.declared.subnet.Subnet.{Subnet}

@@ -8,7 +8,7 @@ use Rattle.kd_classes.specs.declared.boot.Boot.{Boot}
 use Rattle.kd_config.proofs.Tests.{both_passed, some_is}
 use Rattle.kd_config.specs.Sound.{IsBoot}
 use Rattle.kd_json.proofs.Came.{came_from, passed_only}
-use Rattle.kd_json.specs.Values.{address_given, text_if_given}
+use Rattle.kd_fields.specs.Values.{address_given, text_if_given}
 use Rattle.kd_kea.proofs.SoundParts.{each_of_both}
 use Rattle.kd_keys.specs.Boot.{boot_listed, field_by, field_given, is_field_byte, is_field_text, kea_boot, next_server_given, own_boot, nonzero_server, zero_filled, server_in, without_zero}
 use Rattle.kd_keys.specs.Keys.{is_plain, word}

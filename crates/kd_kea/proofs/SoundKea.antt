@@ -7,11 +7,11 @@ use Rattle.kd_classes.specs.declared.option_list.OptionData.{OptionData}
 use Rattle.kd_config.specs.Sound.{AreOptions, IsFrom}
 use Rattle.kd_json.proofs.Came.{came_from, each_meant, passed, passed_only}
 use Rattle.kd_json.proofs.SoundSettings.{name_sound}
-use Rattle.kd_json.specs.Class.{class_name_in}
-use Rattle.kd_json.specs.Document.{value_spelled}
-use Rattle.kd_json.specs.Lists.{list_of}
+use Rattle.kd_fields.specs.Values.{class_name_in}
+use Rattle.kd_fields.specs.Text.{value_spelled}
+use Rattle.kd_fields.specs.Lists.{list_of}
 use Rattle.kd_json.specs.Sound.{AreSettings, IsEntry}
-use Rattle.kd_json.specs.Values.{text_if_given}
+use Rattle.kd_fields.specs.Values.{text_if_given}
 use Rattle.kd_json.specs.declared.objects.class.ClassEntry.{ClassEntry}
 use Rattle.kd_json.specs.declared.objects.settings.Settings.{Settings}
 use Rattle.kd_kea.proofs.SoundBoot.{boot_sound, own_sound}

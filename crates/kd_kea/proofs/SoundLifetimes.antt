@@ -7,7 +7,7 @@ use Rattle.kd_config.proofs.Tests.{both_passed, some_is}
 use Rattle.kd_config.specs.Sound.{IsFrom, IsLifetime, longest_lease}
 use Rattle.kd_json.proofs.Came.{came_from, passed_only, seen_from}
 use Rattle.kd_json.proofs.Sounds.{number_or_sound}
-use Rattle.kd_json.specs.Values.{number_if_given, number_within}
+use Rattle.kd_fields.specs.Values.{number_if_given, number_within}
 use Rattle.kd_kea.specs.Lifetimes.{own_lifetime, go_together, has_times_alone, is_in_bounds, kea_keys, keys_given, lifetime_between, lifetime_by, lifetime_of, seconds_or_above, term_of, term_unless_alike, timers_rise, usual_keys}
 use Rattle.kd_kea.specs.Times.{has_usual_shares}
 use Rattle.kd_keys.specs.Values.{flag_or}

@@ -10,7 +10,7 @@ use Rattle.kd_config.proofs.Tests.{both_passed, or_false, some_is}
 use Rattle.kd_config.specs.Options.{code_among}
 use Rattle.kd_config.specs.Sound.{AreOptions, HaveOwnCodes, IsOption}
 use Rattle.kd_json.proofs.Came.{came_from, passed, passed_only}
-use Rattle.kd_json.specs.Values.{text_if_given}
+use Rattle.kd_fields.specs.Values.{text_if_given}
 use Rattle.kd_kea.proofs.Sounds.{options_sound}
 use Rattle.kd_keys.specs.HostName.{host_name, host_options, is_host_name, may_be_named, name_by, name_code, sent_name, with_host_name, without_dot}
 use Rattle.kd_keys.specs.Options.{kea_options}

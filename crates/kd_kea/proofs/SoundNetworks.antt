@@ -8,8 +8,8 @@ use Rattle.kd_config.proofs.Tests.{some_is}
 use Rattle.kd_config.specs.Sound.{AreOptions, IsSubnet}
 use Rattle.kd_config.specs.declared.subnet.Subnet.{Subnet}
 use Rattle.kd_json.proofs.Came.{came_from, each_meant, passed, passed_only}
-use Rattle.kd_json.specs.Lists.{list_of}
-use Rattle.kd_json.specs.Values.{text_if_given}
+use Rattle.kd_fields.specs.Lists.{list_of}
+use Rattle.kd_fields.specs.Values.{text_if_given}
 use Rattle.kd_kea.proofs.SoundParts.{each_of_both}
 use Rattle.kd_kea.proofs.SoundSubnets.{IsAbove, relays_few, subnet_sound, within_sound}
 use Rattle.kd_kea.proofs.Sounds.{options_sound}

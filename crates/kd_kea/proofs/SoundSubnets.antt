@@ -9,10 +9,10 @@ use Rattle.kd_config.specs.declared.reservation.Reservation.{Reservation}
 use Rattle.kd_config.specs.declared.subnet.Subnet.{Subnet}
 use Rattle.kd_json.proofs.Came.{came_from, each_meant, few_meant, passed, passed_only}
 use Rattle.kd_json.proofs.SoundSettings.{prefix_in_sound, addresses_in_rise}
-use Rattle.kd_json.specs.Lists.{list_of}
+use Rattle.kd_fields.specs.Lists.{list_of}
 use Rattle.kd_json.specs.Pool.{pool_addresses}
 use Rattle.kd_json.specs.Subnet.{subnet_prefix}
-use Rattle.kd_json.specs.Values.{address_given, text_if_given}
+use Rattle.kd_fields.specs.Values.{address_given, text_if_given}
 use Rattle.kd_kea.proofs.SoundBoot.{boot_sound, listed_sound, or_sound, own_sound}
 use Rattle.kd_kea.proofs.SoundClients.{client_sound}
 use Rattle.kd_kea.proofs.SoundLifetimes.{AreTermKeys, keys_sound, term_sound}

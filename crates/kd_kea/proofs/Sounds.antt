@@ -14,8 +14,8 @@ use Rattle.kd_config.specs.declared.times.Times.{Times}
 use Rattle.kd_json.proofs.Came.{came_from, each_meant, few_meant, passed, passed_only}
 use Rattle.kd_json.proofs.SoundSettings.{some_server}
 use Rattle.kd_json.proofs.Sounds.{number_or_sound}
-use Rattle.kd_json.specs.Lists.{list_of}
-use Rattle.kd_json.specs.Values.{number_if_given, text_if_given}
+use Rattle.kd_fields.specs.Lists.{list_of}
+use Rattle.kd_fields.specs.Values.{number_if_given, text_if_given}
 use Rattle.kd_keys.specs.Definitions.{defined_at, is_dhcp4}
 use Rattle.kd_keys.specs.Keys.{keys_are_read}
 use Rattle.kd_keys.specs.OptionValue.{data_by, has_type, is_text_given, standard_type, text_kind}

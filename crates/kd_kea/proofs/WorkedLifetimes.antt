@@ -11,8 +11,8 @@ use Rattle.serde_json.specs.Data.{Data}
 use Rattle.kd_classes.specs.Boot.{no_boot}
 use Rattle.kd_classes.specs.declared.lifetime.Lifetime.{Lifetime}
 use Rattle.kd_config.specs.Term.{rebind_sent, renew_sent}
-use Rattle.kd_json.specs.Document.{value_spelled}
-use Rattle.kd_json.specs.Values.{number_within}
+use Rattle.kd_fields.specs.Text.{value_spelled}
+use Rattle.kd_fields.specs.Values.{number_within}
 use Rattle.kd_keys.specs.HostKinds.{kinds_given}
 use Rattle.kd_kea.specs.Lifetimes.{own_lifetime, has_class_lifetime, kea_keys, keys_given, lifetime_of, term_of, term_unless_alike, usual_keys}
 use Rattle.kd_kea.specs.Times.{kea_times}

@@ -4,9 +4,9 @@ use Rattle.std.specs.Prelude.{ℕ, true, false, not, List, ◌++◌, codes, Opti
 use Rattle.serde_json.specs.Data.{Data}
 use Rattle.serde_json.specs.Find.{get}
 use Rattle.kd_classes.specs.declared.option_list.OptionData.{OptionData}
-use Rattle.kd_json.specs.Class.{class_name_in}
-use Rattle.kd_json.specs.Steps.{must, only_if}
-use Rattle.kd_json.specs.Values.{text_if_given}
+use Rattle.kd_fields.specs.Values.{class_name_in}
+use Rattle.kd_fields.specs.Steps.{must, only_if}
+use Rattle.kd_fields.specs.Values.{text_if_given}
 use Rattle.kd_json.specs.declared.objects.class.ClassEntry.{ClassEntry}
 use Rattle.kd_json.specs.declared.objects.class.TestSource.{TestSource}
 use Rattle.kd_json.specs.declared.objects.class.TestSource.TheVariants.{Nothing, Expression}

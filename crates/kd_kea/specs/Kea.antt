@@ -4,7 +4,8 @@
 use Rattle.std.specs.Prelude.{◌≡◌, ℕ, List, [], Option, Some}
 use Rattle.kd_config.specs.Configuration.{Configuration}
 use Rattle.kd_json.specs.Configured.{IsConfigOf}
-use Rattle.kd_json.specs.Document.{accepted, value_spelled}
+use Rattle.kd_json.specs.Document.{accepted}
+use Rattle.kd_fields.specs.Text.{value_spelled}
 use Rattle.kd_json.specs.FirstFault.{IsFaultOfSettings}
 use Rattle.kd_json.specs.declared.fault.ConfigFault.{ConfigFault}
 use Rattle.kd_json.specs.declared.objects.settings.Settings.{Settings}

@@ -12,8 +12,8 @@ use Rattle.kd_config.specs.declared.term.Term.{Term}
 use Rattle.kd_config.specs.declared.term.Timer.{Timer}
 use Rattle.kd_config.specs.declared.term.Timer.TheVariants as timers
 use Rattle.kd_config.specs.declared.times.Times.{Times}
-use Rattle.kd_json.specs.Steps.{only_if}
-use Rattle.kd_json.specs.Values.{number_if_given, number_within}
+use Rattle.kd_fields.specs.Steps.{only_if}
+use Rattle.kd_fields.specs.Values.{number_if_given, number_within}
 use Rattle.kd_kea.specs.Times.{has_usual_shares, shares_given}
 use Rattle.kd_keys.specs.Values.{flag_or}
 use Rattle.kd_kea.specs.declared.objects.lifetimes.TermKeys.{TermKeys}

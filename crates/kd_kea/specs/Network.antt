@@ -8,9 +8,9 @@ use Rattle.serde_json.specs.Find.{as_str, get}
 use Rattle.kd_config.specs.Address.{has_address}
 use Rattle.kd_config.specs.Classed.{class_list}
 use Rattle.kd_config.specs.declared.subnet.Subnet.{Subnet}
-use Rattle.kd_json.specs.Lists.{list_of}
-use Rattle.kd_json.specs.Steps.{must, only_if}
-use Rattle.kd_json.specs.Values.{text_if_given}
+use Rattle.kd_fields.specs.Lists.{list_of}
+use Rattle.kd_fields.specs.Steps.{must, only_if}
+use Rattle.kd_fields.specs.Values.{text_if_given}
 use Rattle.kd_keys.specs.Keys.{is_plain, keys_are_read, word}
 use Rattle.kd_keys.specs.Options.{kea_options}
 use Rattle.kd_keys.specs.Policy.{repeats_policy}

@@ -6,8 +6,8 @@ use Rattle.kd_config.specs.Classed.{class_list}
 use Rattle.kd_config.specs.declared.pool.Pool.{Pool}
 use Rattle.kd_config.specs.declared.range.Range.{Range}
 use Rattle.kd_json.specs.Pool.{pool_addresses}
-use Rattle.kd_json.specs.Steps.{must, only_if}
-use Rattle.kd_json.specs.Values.{text_if_given}
+use Rattle.kd_fields.specs.Steps.{must, only_if}
+use Rattle.kd_fields.specs.Values.{text_if_given}
 use Rattle.kd_keys.specs.Keys.{keys_are_read}
 use Rattle.kd_keys.specs.Options.{kea_options}
 use Rattle.kd_keys.specs.Tables.{pool_keys}

@@ -4,8 +4,8 @@ use Rattle.std.specs.Prelude.{ℕ, Bool, codes, List, [], Option, Some, None, op
 use Rattle.serde_json.specs.Data.{Data}
 use Rattle.serde_json.specs.Find.{get}
 use Rattle.kd_config.specs.declared.reservation.Reservation.{Reservation}
-use Rattle.kd_json.specs.Steps.{must}
-use Rattle.kd_json.specs.Values.{address_given}
+use Rattle.kd_fields.specs.Steps.{must}
+use Rattle.kd_fields.specs.Values.{address_given}
 use Rattle.kd_keys.specs.Boot.{boot_listed, own_boot}
 use Rattle.kd_keys.specs.ClassNames.{classes_given}
 use Rattle.kd_keys.specs.HostClient.{kea_client}

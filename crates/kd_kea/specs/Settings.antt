@@ -4,8 +4,8 @@ use Rattle.serde_json.specs.Data.{Data}
 use Rattle.serde_json.specs.Find.{as_object, get}
 use Rattle.kd_classes.specs.declared.option_list.OptionData.{OptionData}
 use Rattle.kd_config.specs.Configuration.{kea_extensions}
-use Rattle.kd_json.specs.Lists.{list_of}
-use Rattle.kd_json.specs.Steps.{must}
+use Rattle.kd_fields.specs.Lists.{list_of}
+use Rattle.kd_fields.specs.Steps.{must}
 use Rattle.kd_json.specs.declared.objects.settings.Settings.{Settings}
 use Rattle.kd_keys.specs.Boot.{kea_boot}
 use Rattle.kd_kea.specs.Class.{kea_class}

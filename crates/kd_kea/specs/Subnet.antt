@@ -11,10 +11,10 @@ use Rattle.kd_config.specs.declared.pool.Pool.{Pool}
 use Rattle.kd_config.specs.declared.reservation.Reservation.{Reservation}
 use Rattle.kd_config.specs.declared.prefix.Prefix.{Prefix}
 use Rattle.kd_config.specs.declared.subnet.Subnet.{Subnet}
-use Rattle.kd_json.specs.Lists.{list_of}
-use Rattle.kd_json.specs.Steps.{must}
+use Rattle.kd_fields.specs.Lists.{list_of}
+use Rattle.kd_fields.specs.Steps.{must}
 use Rattle.kd_json.specs.Subnet.{subnet_prefix}
-use Rattle.kd_json.specs.Values.{number_if_given, text_if_given}
+use Rattle.kd_fields.specs.Values.{number_if_given, text_if_given}
 use Rattle.kd_keys.specs.Boot.{kea_boot}
 use Rattle.kd_keys.specs.HostName.{has_bare_names}
 use Rattle.kd_keys.specs.Keys.{is_plain, keys_are_read, word}

@@ -6,8 +6,8 @@ use Rattle.serde_json.specs.Find.{get, to_float}
 use Rattle.kd_config.specs.Sound.{longest_lease}
 use Rattle.kd_config.specs.Term.{share_of}
 use Rattle.kd_config.specs.declared.times.Times.{Times}
-use Rattle.kd_json.specs.Steps.{must}
-use Rattle.kd_json.specs.Values.{number_if_given}
+use Rattle.kd_fields.specs.Steps.{must}
+use Rattle.kd_fields.specs.Values.{number_if_given}
 use Rattle.kd_kea.specs.declared.objects.lifetimes.TermKeys.{TermKeys}
 use Rattle.kd_kea.specs.declared.objects.times.Shares.{Shares}
 use Rattle.kd_kea.specs.declared.objects.times.TheConstants.{NOTHING, SEVEN_EIGHTHS, WHOLE}

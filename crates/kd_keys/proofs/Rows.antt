@@ -9,7 +9,7 @@ use Rattle.serde_json.specs.Data.{Data, Members}
 use Rattle.serde_json.specs.Find.{as_object, get}
 use Rattle.serde_json.specs.View.{members_view}
 use Rattle.serde_json.specs.declared.value.Value.{Value}
-use Rattle.kd_json.specs.Steps.{must}
+use Rattle.kd_fields.specs.Steps.{must}
 use Rattle.kd_keys.specs.Keys.{KeyUse, each_key, has_only_keys, key_use, keys_are_read, allows_value}
 use Rattle.kd_keys.specs.Rows.{row_of, rows_of}
 use Rattle.kd_keys.specs.declared.keys.KeyRule.{KeyRule}

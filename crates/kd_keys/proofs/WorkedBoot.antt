@@ -4,7 +4,7 @@ use Rattle.std.specs.Fmt.{digits}
 use Rattle.std.specs.Str.{chars, is_utf8}
 use Rattle.serde_json.proofs.OnLiterals.{serde_json_on_literals}
 use Rattle.kd_classes.specs.Boot.{no_boot}
-use Rattle.kd_json.specs.Document.{value_spelled}
+use Rattle.kd_fields.specs.Text.{value_spelled}
 use Rattle.kd_keys.specs.Boot.{field_given, kea_boot, own_boot, without_zero}
 use Rattle.kd_wire.specs.Steps.{◌>>=◌}
 

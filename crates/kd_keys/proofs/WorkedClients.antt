@@ -6,9 +6,9 @@ use Rattle.std.specs.Str.{chars, is_utf8}
 use Rattle.serde_json.proofs.OnLiterals.{serde_json_on_literals}
 use Rattle.kd_config.specs.declared.reservation.Identity.TheVariants as clients
 use Rattle.kd_config.specs.declared.reservation.IdentityKind.TheVariants as kinds
-use Rattle.kd_json.specs.Document.{value_spelled}
-use Rattle.kd_json.specs.HexText.{bytes_spelled}
-use Rattle.kd_json.specs.Values.{hex_bytes_in}
+use Rattle.kd_fields.specs.Text.{value_spelled}
+use Rattle.kd_fields.specs.HexText.{bytes_spelled}
+use Rattle.kd_fields.specs.Values.{hex_bytes_in}
 use Rattle.kd_keys.specs.HostClient.{host_bytes, kea_client}
 use Rattle.kd_keys.specs.HostKinds.{are_all_found, every_kind, finds_reservations, kinds_given, order_given}
 use Rattle.kd_keys.specs.Quoted.{bytes_in_quotes}

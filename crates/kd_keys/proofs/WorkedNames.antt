@@ -4,10 +4,10 @@ use Rattle.std.specs.Prelude.{codes, option_map}
 use Rattle.std.specs.Fmt.{digits}
 use Rattle.std.specs.Str.{chars, is_utf8}
 use Rattle.serde_json.proofs.OnLiterals.{serde_json_on_literals}
-use Rattle.kd_json.specs.Document.{value_spelled}
-use Rattle.kd_json.specs.HexText.{bytes_spelled}
-use Rattle.kd_json.specs.Lists.{list_of}
-use Rattle.kd_json.specs.Values.{hex_bytes_in, number_within}
+use Rattle.kd_fields.specs.Text.{value_spelled}
+use Rattle.kd_fields.specs.HexText.{bytes_spelled}
+use Rattle.kd_fields.specs.Lists.{list_of}
+use Rattle.kd_fields.specs.Values.{hex_bytes_in, number_within}
 use Rattle.kd_keys.specs.Definitions.{usual_vendor}
 use Rattle.kd_keys.specs.HostName.{has_bare_names, host_name, host_options, server_has_bare_names}
 use Rattle.kd_keys.specs.Keys.{keys_are_read}

@@ -7,8 +7,8 @@ use Rattle.serde_json.specs.Data.{Data}
 use Rattle.serde_json.specs.Find.{get}
 use Rattle.kd_classes.specs.Boot.{gives_nothing}
 use Rattle.kd_classes.specs.declared.boot.Boot.{Boot}
-use Rattle.kd_json.specs.Steps.{only_if}
-use Rattle.kd_json.specs.Values.{address_given, text_if_given}
+use Rattle.kd_fields.specs.Steps.{only_if}
+use Rattle.kd_fields.specs.Values.{address_given, text_if_given}
 use Rattle.kd_keys.specs.Keys.{is_plain, word}
 use Rattle.kd_keys.specs.Values.{unless_empty}
 use Rattle.kd_wire.specs.Steps.{◌>>=◌}

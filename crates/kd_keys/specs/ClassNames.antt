@@ -4,8 +4,8 @@
 use Rattle.std.specs.Prelude.{ℕ, ◌||◌, Bool, bytes_eq, List, codes, Option}
 use Rattle.serde_json.specs.Data.{Data}
 use Rattle.serde_json.specs.Find.{get}
-use Rattle.kd_json.specs.Class.{class_name_in}
-use Rattle.kd_json.specs.Lists.{list_of}
+use Rattle.kd_fields.specs.Values.{class_name_in}
+use Rattle.kd_fields.specs.Lists.{list_of}
 
 -- the class of all clients with a reservation, or that of all others
 abbrev pub is_of_clients : List ℕ → Bool

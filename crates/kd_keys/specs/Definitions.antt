@@ -6,9 +6,9 @@ use Rattle.std.specs.Map.{lookup}
 use Rattle.memchr.specs.Find.{is_byte}
 use Rattle.serde_json.specs.Data.{Data}
 use Rattle.serde_json.specs.Find.{as_str, get}
-use Rattle.kd_json.specs.Lists.{list_of}
-use Rattle.kd_json.specs.Steps.{must, only_if}
-use Rattle.kd_json.specs.Values.{number_within}
+use Rattle.kd_fields.specs.Lists.{list_of}
+use Rattle.kd_fields.specs.Steps.{must, only_if}
+use Rattle.kd_fields.specs.Values.{number_within}
 use Rattle.kd_names.specs.Table.{kind_by_code, option_by_name}
 use Rattle.kd_names.specs.declared.kind.Kind.{Kind}
 use Rattle.kd_values.specs.Parts.{trimmed}

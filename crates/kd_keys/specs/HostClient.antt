@@ -7,7 +7,7 @@ use Rattle.kd_config.specs.declared.reservation.Identity.{Identity}
 use Rattle.kd_config.specs.declared.reservation.Identity.TheVariants as clients
 use Rattle.kd_config.specs.declared.reservation.IdentityKind.{IdentityKind}
 use Rattle.kd_config.specs.declared.reservation.IdentityKind.TheVariants as kinds
-use Rattle.kd_json.specs.Steps.{only_if}
+use Rattle.kd_fields.specs.Steps.{only_if}
 use Rattle.kd_keys.specs.HostKinds.{kind_key}
 use Rattle.kd_keys.specs.Quoted.{bytes_written}
 use Rattle.kd_wire.specs.Steps.{◌>>=◌}

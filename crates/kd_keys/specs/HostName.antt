@@ -7,8 +7,8 @@ use Rattle.std.specs.Str.{str_to_ascii_lowercase}
 use Rattle.serde_json.specs.Data.{Data}
 use Rattle.serde_json.specs.Find.{get}
 use Rattle.kd_classes.specs.declared.option_list.OptionData.{OptionData}
-use Rattle.kd_json.specs.Steps.{must, only_if}
-use Rattle.kd_json.specs.Values.{text_if_given}
+use Rattle.kd_fields.specs.Steps.{must, only_if}
+use Rattle.kd_fields.specs.Values.{text_if_given}
 use Rattle.kd_keys.specs.Keys.{is_plain, word}
 use Rattle.kd_keys.specs.Options.{kea_options}
 use Rattle.kd_keys.specs.Values.{is_plain_if_given, unless_empty}

@@ -3,7 +3,7 @@
 use Rattle.std.specs.Prelude.{ℕ, ◌==◌, Bool, true, false, not, ◌||◌, nat_le, List, [], ◌∷◌, length, Option, Some, None, is_some, if◌then◌else◌}
 use Rattle.serde_json.specs.Data.{Data}
 use Rattle.serde_json.specs.Find.{as_bool, as_str}
-use Rattle.kd_json.specs.Steps.{must, only_if}
+use Rattle.kd_fields.specs.Steps.{must, only_if}
 use Rattle.kd_names.specs.Table.{kind_by_code}
 use Rattle.kd_names.specs.declared.kind.Kind.{Kind}
 use Rattle.kd_names.specs.declared.kind.Kind.TheVariants as kinds

@@ -7,9 +7,9 @@ use Rattle.serde_json.specs.Data.{Data}
 use Rattle.serde_json.specs.Find.{get}
 use Rattle.kd_classes.specs.declared.option_list.OptionData.{OptionData}
 use Rattle.kd_config.specs.Options.{own_codes}
-use Rattle.kd_json.specs.Lists.{list_of}
-use Rattle.kd_json.specs.Steps.{must, only_if}
-use Rattle.kd_json.specs.Values.{number_within, text_if_given}
+use Rattle.kd_fields.specs.Lists.{list_of}
+use Rattle.kd_fields.specs.Steps.{must, only_if}
+use Rattle.kd_fields.specs.Values.{number_within, text_if_given}
 use Rattle.kd_keys.specs.Definitions.{defined_as, defined_at, is_dhcp4, vendor_space}
 use Rattle.kd_keys.specs.Keys.{keys_are_read}
 use Rattle.kd_keys.specs.OptionValue.{data_by, has_type, is_text_given, standard_type, text_kind}

@@ -4,7 +4,7 @@ use Rattle.std.specs.Prelude.{ℕ, ◌+◌, ◌-◌, ◌*◌, ◌/◌, nat_le, n
 use Rattle.std.specs.List.{flat_map, range_with_len}
 use Rattle.kd_config.specs.declared.pool.Pool.{Pool}
 use Rattle.kd_config.specs.declared.range.Range.{Range}
-use Rattle.kd_json.specs.Steps.{only_if}
+use Rattle.kd_fields.specs.Steps.{only_if}
 
 -- the first 65,536 of some addresses, or all of fewer
 abbrev pub first_part : ℕ → ℕ → Range

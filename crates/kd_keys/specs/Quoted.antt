@@ -4,8 +4,8 @@ use Rattle.std.specs.Prelude.{ℕ, ◌-◌, ◌==◌, nat_eq, nat_le, Bool, ◌&
 use Rattle.std.specs.List.{ends_with, starts_with}
 use Rattle.serde_json.specs.Data.{Data}
 use Rattle.serde_json.specs.Find.{as_str}
-use Rattle.kd_json.specs.Steps.{must, only_if}
-use Rattle.kd_json.specs.Values.{hex_bytes_in}
+use Rattle.kd_fields.specs.Steps.{must, only_if}
+use Rattle.kd_fields.specs.Values.{hex_bytes_in}
 use Rattle.kd_keys.specs.Values.{is_whole_text}
 use Rattle.kd_values.specs.Signs.{if_any}
 use Rattle.kd_wire.specs.Steps.{◌>>=◌}

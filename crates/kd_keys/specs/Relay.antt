@@ -3,9 +3,9 @@
 use Rattle.std.specs.Prelude.{ℕ, List, [], ◌∷◌, codes, Option, Some, None, option_map}
 use Rattle.serde_json.specs.Data.{Data}
 use Rattle.serde_json.specs.Find.{get}
-use Rattle.kd_json.specs.Lists.{list_of}
-use Rattle.kd_json.specs.Steps.{must}
-use Rattle.kd_json.specs.Values.{address_given}
+use Rattle.kd_fields.specs.Lists.{list_of}
+use Rattle.kd_fields.specs.Steps.{must}
+use Rattle.kd_fields.specs.Values.{address_given}
 use Rattle.kd_keys.specs.Keys.{keys_are_read}
 use Rattle.kd_keys.specs.Tables.{relay_keys}
 use Rattle.kd_wire.specs.Steps.{◌>>=◌}

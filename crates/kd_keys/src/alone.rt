@@ -1,9 +1,9 @@
 ghost use Rattle.std.specs.Prelude.{◌≡◌, IfOk};
 ghost use Rattle.serde_json.specs.View.{view};
 
-use kd_json::objects::faults::SettingsFault;
-use kd_json::objects::lists::EntryReader;
-use kd_json::rules::place::Place;
+use kd_fields::faults::SettingsFault;
+use kd_fields::lists::EntryReader;
+use kd_fields::place::Place;
 use serde_json::Value;
 use std::alloc::{AllocError, Global};
 

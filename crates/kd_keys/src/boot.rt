@@ -2,16 +2,16 @@ ghost use Rattle.std.specs.Prelude.{◌≡◌, ◌≤◌, IfOk, Some, codes, len
 ghost use Rattle.std.specs.List.{list_all};
 ghost use Rattle.serde_json.specs.Find.{get};
 ghost use Rattle.serde_json.specs.View.{view};
-ghost use Rattle.kd_json.specs.Gives.{Means};
-ghost use Rattle.kd_json.specs.declared.objects.faults.SettingsFault.TheVariants.{Memory};
+ghost use Rattle.kd_fields.specs.Gives.{Means};
+ghost use Rattle.kd_fields.specs.declared.faults.SettingsFault.TheVariants.{Memory};
 ghost use Rattle.kd_keys.specs.Boot.{boot_listed, field_by, field_given, is_field_byte, is_field_text, kea_boot, next_server_given, nonzero_server, own_boot, zero_filled, server_in, without_zero};
 ghost use Rattle.kd_keys.specs.Values.{unless_empty};
 
 use crate::keys::{UsualValue, is_usual};
 use kd_classes::{Boot, BootList};
-use kd_json::objects::faults::SettingsFault;
-use kd_json::objects::values::address_in;
-use kd_json::rules::place::{Place, bad_value};
+use kd_fields::faults::SettingsFault;
+use kd_fields::place::{Place, bad_value};
+use kd_fields::values::address_in;
 use serde_json::Value;
 use std::alloc::{AllocError, Global};
 

@@ -2,16 +2,16 @@ ghost use Rattle.std.specs.Prelude.{◌≡◌, map, not, option_map, string_byte
 ghost use Rattle.std.specs.List.{find};
 ghost use Rattle.serde_json.specs.Find.{get};
 ghost use Rattle.serde_json.specs.View.{view};
-ghost use Rattle.kd_json.specs.Gives.{Means};
-ghost use Rattle.kd_json.specs.Steps.{must};
-ghost use Rattle.kd_json.specs.declared.objects.faults.SettingsFault.TheVariants.{Memory};
+ghost use Rattle.kd_fields.specs.Gives.{Means};
+ghost use Rattle.kd_fields.specs.Steps.{must};
+ghost use Rattle.kd_fields.specs.declared.faults.SettingsFault.TheVariants.{Memory};
 ghost use Rattle.kd_keys.specs.Keys.{key_use, keys_are_read, allows_value};
 ghost use Rattle.kd_keys.specs.Tables.{key_table};
 
 use crate::keys::{KeyRule, is_among, rule_in};
 use crate::tables::ObjectKind;
-use kd_json::objects::faults::SettingsFault;
-use kd_json::rules::place::{Place, bad_place, unknown};
+use kd_fields::faults::SettingsFault;
+use kd_fields::place::{Place, bad_place, unknown};
 use serde_json::{Map, Value};
 use std::alloc::Global;
 

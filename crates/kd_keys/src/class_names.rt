@@ -1,15 +1,14 @@
 ghost use Rattle.std.specs.Prelude.{◌≡◌};
 ghost use Rattle.serde_json.specs.View.{view};
-ghost use Rattle.kd_json.specs.Class.{class_name_in};
-ghost use Rattle.kd_json.specs.Gives.{Means};
-ghost use Rattle.kd_json.specs.declared.objects.faults.SettingsFault.TheVariants.{Memory};
+ghost use Rattle.kd_fields.specs.Values.{class_name_in};
+ghost use Rattle.kd_fields.specs.Gives.{Means};
+ghost use Rattle.kd_fields.specs.declared.faults.SettingsFault.TheVariants.{Memory};
 ghost use Rattle.kd_keys.specs.ClassNames.{classes_given, is_of_clients};
 
-use kd_json::objects::class::name_in;
-use kd_json::objects::faults::SettingsFault;
-use kd_json::objects::lists::{EntryReader, entries_of};
-use kd_json::objects::values::own_bytes;
-use kd_json::rules::place::{Place, bad_place};
+use kd_fields::faults::SettingsFault;
+use kd_fields::lists::{EntryReader, entries_of};
+use kd_fields::place::{Place, bad_place};
+use kd_fields::values::{name_in, own_bytes};
 use kd_wire::{Bytes, Entries};
 use serde_json::Value;
 use std::alloc::Global;

@@ -1,15 +1,15 @@
 ghost use Rattle.serde_json.specs.Find.{as_str, get};
 ghost use Rattle.serde_json.specs.View.{view};
-ghost use Rattle.kd_json.specs.Gives.{GivesAs, Means};
-ghost use Rattle.kd_json.specs.Steps.{must};
-ghost use Rattle.kd_json.specs.declared.objects.faults.SettingsFault.TheVariants.{Memory};
+ghost use Rattle.kd_fields.specs.Gives.{GivesAs, Means};
+ghost use Rattle.kd_fields.specs.Steps.{must};
+ghost use Rattle.kd_fields.specs.declared.faults.SettingsFault.TheVariants.{Memory};
 ghost use Rattle.kd_keys.specs.Rows.{plain_of};
 ghost use Rattle.kd_keys.specs.Values.{flag_given, flag_or, is_plain_if_given, text_otherwise, unless_empty};
 ghost use Rattle.std.specs.Prelude.{◌≡◌, option_and_then};
 
 use crate::keys::{UsualValue, is_usual};
-use kd_json::objects::faults::SettingsFault;
-use kd_json::rules::place::{Place, bad_value, missing, unknown};
+use kd_fields::faults::SettingsFault;
+use kd_fields::place::{Place, bad_value, missing, unknown};
 use kd_wire::Bytes;
 use serde_json::Value;
 use std::alloc::Global;

@@ -2,13 +2,13 @@ ghost use Rattle.std.specs.Prelude.{◌≡◌, Some, codes, map, nat_eq};
 ghost use Rattle.std.specs.List.{ends_with, list_any};
 ghost use Rattle.serde_json.specs.Find.{get};
 ghost use Rattle.serde_json.specs.View.{items_view, view};
-ghost use Rattle.kd_json.specs.Gives.{Means};
-ghost use Rattle.kd_json.specs.Steps.{must};
-ghost use Rattle.kd_json.specs.declared.objects.faults.SettingsFault.TheVariants.{Memory};
+ghost use Rattle.kd_fields.specs.Gives.{Means};
+ghost use Rattle.kd_fields.specs.Steps.{must};
+ghost use Rattle.kd_fields.specs.declared.faults.SettingsFault.TheVariants.{Memory};
 ghost use Rattle.kd_keys.specs.Hooks.{are_quiet, hooks_are_quiet, is_quiet, quiet_libraries};
 
-use kd_json::objects::faults::SettingsFault;
-use kd_json::rules::place::{Place, unknown};
+use kd_fields::faults::SettingsFault;
+use kd_fields::place::{Place, unknown};
 use serde_json::Value;
 use std::alloc::Global;
 

@@ -1,16 +1,16 @@
 ghost use Rattle.std.specs.Prelude.{◌≡◌};
 ghost use Rattle.serde_json.specs.Find.{get};
 ghost use Rattle.serde_json.specs.View.{view};
-ghost use Rattle.kd_json.specs.Gives.{Means};
-ghost use Rattle.kd_json.specs.declared.objects.faults.SettingsFault.TheVariants.{Memory};
+ghost use Rattle.kd_fields.specs.Gives.{Means};
+ghost use Rattle.kd_fields.specs.declared.faults.SettingsFault.TheVariants.{Memory};
 ghost use Rattle.kd_keys.specs.HostClient.{host_bytes, client_if_given, kea_client, most_bytes, one_client};
 ghost use Rattle.kd_keys.specs.HostKinds.{kind_key};
 
 use crate::host_kinds::key_of_kind;
 use crate::quoted::read_bytes;
 use kd_config::{Identity, IdentityKind};
-use kd_json::objects::faults::SettingsFault;
-use kd_json::rules::place::{Place, bad_place, bad_value, missing};
+use kd_fields::faults::SettingsFault;
+use kd_fields::place::{Place, bad_place, bad_value, missing};
 use kd_wire::Bytes;
 use serde_json::Value;
 use std::alloc::Global;

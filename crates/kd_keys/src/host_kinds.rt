@@ -2,17 +2,17 @@ ghost use Rattle.std.specs.Prelude.{◌≡◌, ◌&&◌, ◌++◌, IfOk, OnOk, c
 ghost use Rattle.std.specs.List.{find};
 ghost use Rattle.serde_json.specs.Find.{get};
 ghost use Rattle.serde_json.specs.View.{items_view, view};
-ghost use Rattle.kd_json.specs.Gives.{Means};
-ghost use Rattle.kd_json.specs.Steps.{must};
-ghost use Rattle.kd_json.specs.declared.objects.faults.SettingsFault.TheVariants.{Memory};
+ghost use Rattle.kd_fields.specs.Gives.{Means};
+ghost use Rattle.kd_fields.specs.Steps.{must};
+ghost use Rattle.kd_fields.specs.declared.faults.SettingsFault.TheVariants.{Memory};
 ghost use Rattle.kd_keys.specs.HostKinds.{are_all_found, every_kind, finds_reservations, is_found_if_given, is_kind_name, is_named_again, kind_key, kind_list, kind_named, kinds_among, kinds_given, kinds_in_order, looks_for, name_kinds, named_kinds, order_given};
 ghost use Rattle.kd_keys.specs.Keys.{is_plain, word};
 ghost use Rattle.kd_keys.specs.Values.{has_plain};
 
 use crate::keys::{UsualValue, is_usual};
 use kd_config::IdentityKind;
-use kd_json::objects::faults::SettingsFault;
-use kd_json::rules::place::{Place, unknown};
+use kd_fields::faults::SettingsFault;
+use kd_fields::place::{Place, unknown};
 use kd_wire::Entries;
 use serde_json::Value;
 use std::alloc::{AllocError, Global};

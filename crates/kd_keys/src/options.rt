@@ -3,9 +3,9 @@ ghost use Rattle.std.specs.List.{find, list_all, list_any};
 ghost use Rattle.std.specs.Option.{option_copied};
 ghost use Rattle.serde_json.specs.Find.{get};
 ghost use Rattle.serde_json.specs.View.{view};
-ghost use Rattle.kd_json.specs.Gives.{Means};
-ghost use Rattle.kd_json.specs.Steps.{must};
-ghost use Rattle.kd_json.specs.declared.objects.faults.SettingsFault.TheVariants.{Memory};
+ghost use Rattle.kd_fields.specs.Gives.{Means};
+ghost use Rattle.kd_fields.specs.Steps.{must};
+ghost use Rattle.kd_fields.specs.declared.faults.SettingsFault.TheVariants.{Memory};
 ghost use Rattle.kd_keys.specs.Options.{address_in_bytes, entries_differ, is_entry, is_of_space, is_server_option, is_short, kea_options, may_hold, options_by, sent_to_all, server_address, some_address};
 ghost use Rattle.kd_keys.specs.Scope.{definitions_in};
 
@@ -14,9 +14,9 @@ use crate::inside::{has_space, options_among};
 use crate::scope::OptionScope;
 use crate::space::is_of_messages;
 use kd_classes::{OptionData, OptionList};
-use kd_json::objects::faults::SettingsFault;
-use kd_json::objects::lists::entries_of;
-use kd_json::rules::place::{Place, bad_place, bad_value};
+use kd_fields::faults::SettingsFault;
+use kd_fields::lists::entries_of;
+use kd_fields::place::{Place, bad_place, bad_value};
 use serde_json::Value;
 use std::alloc::{AllocError, Global};
 

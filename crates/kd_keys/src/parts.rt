@@ -1,12 +1,12 @@
 ghost use Rattle.std.specs.Prelude.{◌≡◌, ◌++◌, ◌+◌, ◌-◌, ◌*◌, ◌≤◌, IfOk, OnOk};
 ghost use Rattle.std.specs.List.{flat_map};
-ghost use Rattle.kd_json.specs.Gives.{Means};
-ghost use Rattle.kd_json.specs.declared.objects.faults.SettingsFault.TheVariants.{Memory};
+ghost use Rattle.kd_fields.specs.Gives.{Means};
+ghost use Rattle.kd_fields.specs.declared.faults.SettingsFault.TheVariants.{Memory};
 ghost use Rattle.kd_keys.specs.Parts.{first_part, first_parts, pool_part, part_count, parts_of, parts_of_all};
 
 use kd_config::{Pool, Range, classes_copied, options_copied};
-use kd_json::objects::faults::SettingsFault;
-use kd_json::rules::place::{Place, bad_value};
+use kd_fields::faults::SettingsFault;
+use kd_fields::place::{Place, bad_value};
 use kd_wire::Entries;
 use std::alloc::{AllocError, Global};
 

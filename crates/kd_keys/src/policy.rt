@@ -1,17 +1,17 @@
 ghost use Rattle.std.specs.Prelude.{◌≡◌};
 ghost use Rattle.serde_json.specs.Find.{get};
 ghost use Rattle.serde_json.specs.View.{view};
-ghost use Rattle.kd_json.specs.Gives.{Means};
-ghost use Rattle.kd_json.specs.Steps.{must};
-ghost use Rattle.kd_json.specs.declared.objects.faults.SettingsFault.TheVariants.{Memory};
+ghost use Rattle.kd_fields.specs.Gives.{Means};
+ghost use Rattle.kd_fields.specs.Steps.{must};
+ghost use Rattle.kd_fields.specs.declared.faults.SettingsFault.TheVariants.{Memory};
 ghost use Rattle.kd_keys.specs.Policy.{kea_policy, repeats_policy};
 ghost use Rattle.kd_keys.specs.Values.{flag_or};
 
 use crate::flags::{check_usual, flag_at, flag_in, flag_or_default};
 use crate::keys::UsualValue;
 use kd_config::Policy;
-use kd_json::objects::faults::SettingsFault;
-use kd_json::rules::place::Place;
+use kd_fields::faults::SettingsFault;
+use kd_fields::place::Place;
 use serde_json::Value;
 use std::alloc::Global;
 

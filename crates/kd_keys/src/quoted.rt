@@ -1,14 +1,14 @@
 ghost use Rattle.std.specs.Prelude.{◌≡◌, option_and_then, option_map, reverse};
 ghost use Rattle.serde_json.specs.Find.{as_str};
 ghost use Rattle.serde_json.specs.View.{view};
-ghost use Rattle.kd_json.specs.Gives.{Means};
-ghost use Rattle.kd_json.specs.declared.objects.faults.SettingsFault.TheVariants.{Memory};
+ghost use Rattle.kd_fields.specs.Gives.{Means};
+ghost use Rattle.kd_fields.specs.declared.faults.SettingsFault.TheVariants.{Memory};
 ghost use Rattle.kd_keys.specs.Quoted.{a_blank_here, behind_blanks, between_ends, bytes_in_quotes, bytes_written, is_in_quotes, without_blanks};
 
 use crate::whole_bytes::check_whole;
-use kd_json::objects::faults::SettingsFault;
-use kd_json::objects::values::{bytes_at, own_bytes};
-use kd_json::rules::place::{Place, bad_place};
+use kd_fields::faults::SettingsFault;
+use kd_fields::place::{Place, bad_place};
+use kd_fields::values::{bytes_at, own_bytes};
 use kd_wire::Bytes;
 use serde_json::Value;
 use std::alloc::Global;

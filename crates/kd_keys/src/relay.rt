@@ -1,17 +1,17 @@
 ghost use Rattle.std.specs.Prelude.{codes};
 ghost use Rattle.serde_json.specs.Find.{get};
 ghost use Rattle.serde_json.specs.View.{view};
-ghost use Rattle.kd_json.specs.Gives.{Means};
-ghost use Rattle.kd_json.specs.Values.{address_given};
-ghost use Rattle.kd_json.specs.declared.objects.faults.SettingsFault.TheVariants.{Memory};
+ghost use Rattle.kd_fields.specs.Gives.{Means};
+ghost use Rattle.kd_fields.specs.Values.{address_given};
+ghost use Rattle.kd_fields.specs.declared.faults.SettingsFault.TheVariants.{Memory};
 ghost use Rattle.kd_keys.specs.Relay.{kea_relay, relays_by, relays_of};
 
 use crate::checking::check_keys;
 use crate::tables::ObjectKind;
-use kd_json::objects::faults::SettingsFault;
-use kd_json::objects::lists::{EntryReader, entries_of};
-use kd_json::objects::values::address_in;
-use kd_json::rules::place::{Place, bad_place, bad_value};
+use kd_fields::faults::SettingsFault;
+use kd_fields::lists::{EntryReader, entries_of};
+use kd_fields::place::{Place, bad_place, bad_value};
+use kd_fields::values::address_in;
 use kd_wire::Entries;
 use serde_json::Value;
 use std::alloc::Global;

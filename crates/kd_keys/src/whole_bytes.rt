@@ -1,12 +1,12 @@
 ghost use Rattle.serde_json.specs.View.{view};
-ghost use Rattle.kd_json.specs.Gives.{Means};
-ghost use Rattle.kd_json.specs.Steps.{must};
-ghost use Rattle.kd_json.specs.declared.objects.faults.SettingsFault.TheVariants.{Memory};
+ghost use Rattle.kd_fields.specs.Gives.{Means};
+ghost use Rattle.kd_fields.specs.Steps.{must};
+ghost use Rattle.kd_fields.specs.declared.faults.SettingsFault.TheVariants.{Memory};
 ghost use Rattle.kd_keys.specs.Values.{has_whole_bytes, is_between_bytes, is_whole_text};
 ghost use Rattle.std.specs.Prelude.{◌≡◌};
 
-use kd_json::objects::faults::SettingsFault;
-use kd_json::rules::place::{Place, bad_place};
+use kd_fields::faults::SettingsFault;
+use kd_fields::place::{Place, bad_place};
 use serde_json::Value;
 use std::alloc::Global;
 

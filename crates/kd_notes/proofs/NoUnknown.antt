@@ -15,10 +15,10 @@ use Rattle.kd_classes.specs.Boot.{boot_or}
 use Rattle.kd_classes.specs.declared.boot.Boot.{Boot}
 use Rattle.kd_classes.specs.declared.option_list.OptionData.{OptionData}
 use Rattle.kd_json.proofs.Came.{came_from, passed, passed_only, seen_from}
-use Rattle.kd_json.specs.FirstFault.{path_below}
-use Rattle.kd_json.specs.Lists.{all_of, items_or_none, list_of}
+use Rattle.kd_fields.specs.Place.{path_below}
+use Rattle.kd_fields.specs.Lists.{all_of, items_or_none, list_of}
 use Rattle.kd_json.specs.Subnet.{subnet_prefix}
-use Rattle.kd_json.specs.Values.{number_if_given, text_if_given}
+use Rattle.kd_fields.specs.Values.{number_if_given, text_if_given}
 use Rattle.kd_json.specs.declared.objects.settings.Settings.{Settings}
 use Rattle.kd_keys.specs.Boot.{kea_boot, own_boot}
 use Rattle.kd_kea.specs.Class.{kea_class_options, kea_class, own_class_name}

@@ -14,10 +14,10 @@ use Rattle.kd_classes.specs.declared.boot.Boot.{Boot}
 use Rattle.kd_classes.specs.declared.lifetime.Lifetime.{Lifetime}
 use Rattle.kd_classes.specs.declared.option_list.OptionData.{OptionData}
 use Rattle.kd_json.proofs.Came.{came_from, passed, passed_only, seen_from}
-use Rattle.kd_json.specs.FirstFault.{path_below}
-use Rattle.kd_json.specs.Steps.{must}
+use Rattle.kd_fields.specs.Place.{path_below}
+use Rattle.kd_fields.specs.Steps.{must}
 use Rattle.kd_json.specs.Subnet.{subnet_prefix}
-use Rattle.kd_json.specs.Values.{number_if_given, number_within}
+use Rattle.kd_fields.specs.Values.{number_if_given, number_within}
 use Rattle.kd_keys.specs.Boot.{field_given, kea_boot, next_server_given, own_boot}
 use Rattle.kd_keys.specs.Definitions.{kea_known}
 use Rattle.kd_keys.specs.HostKinds.{finds_reservations, kinds_given}

@@ -4,9 +4,9 @@ use Rattle.std.specs.Prelude.{codes}
 use Rattle.std.specs.Fmt.{digits}
 use Rattle.std.specs.Str.{chars, is_utf8}
 use Rattle.serde_json.proofs.OnLiterals.{serde_json_on_literals}
-use Rattle.kd_json.specs.Document.{value_spelled}
-use Rattle.kd_json.specs.Lists.{list_of}
-use Rattle.kd_json.specs.Values.{number_within}
+use Rattle.kd_fields.specs.Text.{value_spelled}
+use Rattle.kd_fields.specs.Lists.{list_of}
+use Rattle.kd_fields.specs.Values.{number_within}
 use Rattle.kd_names.specs.Values.{sign_text}
 use Rattle.kd_keys.specs.Boot.{field_given, kea_boot, own_boot, server_in}
 use Rattle.kd_kea.specs.Class.{kea_class, own_class_name}

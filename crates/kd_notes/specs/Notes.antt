@@ -13,11 +13,11 @@ use Rattle.kd_config.specs.Address.{has_address}
 use Rattle.kd_config.specs.Sound.{longest_lease}
 use Rattle.kd_config.specs.declared.prefix.Prefix.{Prefix}
 use Rattle.kd_config.specs.declared.times.Times.{Times}
-use Rattle.kd_json.specs.Document.{value_spelled}
-use Rattle.kd_json.specs.FirstFault.{path_below}
-use Rattle.kd_json.specs.Lists.{items_or_none, list_of}
+use Rattle.kd_fields.specs.Text.{value_spelled}
+use Rattle.kd_fields.specs.Place.{path_below}
+use Rattle.kd_fields.specs.Lists.{items_or_none, list_of}
 use Rattle.kd_json.specs.Subnet.{subnet_prefix}
-use Rattle.kd_json.specs.Values.{number_if_given, text_if_given}
+use Rattle.kd_fields.specs.Values.{number_if_given, text_if_given}
 use Rattle.kd_keys.specs.Alone.{right_definitions, usable_definitions}
 use Rattle.kd_keys.specs.Boot.{field_given, kea_boot, next_server_given}
 use Rattle.kd_kea.specs.Class.{kea_class, own_class_name}

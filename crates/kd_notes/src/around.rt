@@ -5,9 +5,9 @@ ghost use Rattle.kd_notes.specs.Notes.{above_by, around_of, is_not_failed, kea_a
 
 use kd_classes::Boot;
 use kd_config::{Policy, Times};
-use kd_json::objects::faults::SettingsFault;
-use kd_json::objects::lists::{EntryReader, entries_of};
-use kd_json::rules::place::{Place, bad_place};
+use kd_fields::faults::SettingsFault;
+use kd_fields::lists::{EntryReader, entries_of};
+use kd_fields::place::{Place, bad_place};
 use kd_kea::objects::lifetimes::{TermKeys, is_lifetime_by_class, keys_of};
 use kd_kea::objects::reservation::ReservationReader;
 use kd_kea::objects::settings::address_of;

@@ -1,6 +1,6 @@
 ghost use Rattle.std.specs.Prelude.{◌≡◌, ◌∷◌, ◌++◌, IfOk, OnOk, [], decimal, map, string_bytes};
 ghost use Rattle.std.specs.List.{flat_map};
-ghost use Rattle.kd_json.specs.FirstFault.{path_below};
+ghost use Rattle.kd_fields.specs.Place.{path_below};
 ghost use Rattle.kd_names.specs.Values.{sign_text};
 ghost use Rattle.kd_notes.specs.Notes.{have_refused, is_refusal, note_of};
 

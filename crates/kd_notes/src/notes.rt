@@ -6,8 +6,8 @@ ghost use Rattle.kd_notes.specs.Notes.{kea_notes, kea_value, note_of};
 
 use crate::list::NoteList;
 use crate::objects::note_root;
-use kd_json::objects::document::value_of;
-use kd_json::objects::faults::SettingsFault;
+use kd_fields::faults::SettingsFault;
+use kd_fields::text::value_of;
 use kd_plain::plain_text;
 use serde_json::Value;
 use std::alloc::{AllocError, Global};

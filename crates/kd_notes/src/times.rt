@@ -13,9 +13,9 @@ use crate::notes::NoteKind;
 use crate::values::{Number, note_flag, note_number};
 use crate::walk::{NotedObject, append_checked, note_failed, note_value};
 use kd_classes::Lifetime;
-use kd_json::objects::faults::SettingsFault;
-use kd_json::objects::lists::EntryReader;
-use kd_json::rules::place::Place;
+use kd_fields::faults::SettingsFault;
+use kd_fields::lists::EntryReader;
+use kd_fields::place::Place;
 use kd_kea::objects::lifetimes::{
     TermKeys, class_lifetime_of, given_keys_of, is_given_below, key_of_bound, key_of_timers,
 };

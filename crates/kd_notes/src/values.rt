@@ -2,7 +2,7 @@ ghost use Rattle.std.specs.Prelude.{◌≡◌, ◌++◌, OnOk, codes, is_some, o
 ghost use Rattle.serde_json.specs.Find.{get};
 ghost use Rattle.serde_json.specs.View.{view};
 ghost use Rattle.kd_json.specs.Subnet.{subnet_prefix};
-ghost use Rattle.kd_json.specs.Values.{number_if_given, text_if_given};
+ghost use Rattle.kd_fields.specs.Values.{number_if_given, text_if_given};
 ghost use Rattle.kd_notes.specs.Notes.{boot_notes, flag_note, hook_kind, hook_notes, host_values, interface_notes, joined_note, kind_notes, name_notes, number_note, off_notes, policy_notes, server_flags, service_notes, subnet_own, subnet_values, text_note, usual_note};
 ghost use Rattle.kd_keys.specs.Rows.{plain_of};
 
@@ -12,7 +12,7 @@ use crate::notes::NoteKind;
 use crate::walk::{NotedObject, note_failed, note_value};
 use crate::wholes::NameReader;
 use kd_config::Policy;
-use kd_json::objects::values::number_in;
+use kd_fields::values::number_in;
 use kd_kea::objects::reservation::ReservationReader;
 use kd_kea::objects::settings::is_off;
 use kd_kea::objects::subnet::{has_server_interface, written_prefix};

@@ -1,14 +1,14 @@
 ghost use Rattle.std.specs.Prelude.{◌≡◌, ◌++◌, IfOk, OnOk, is_some};
 ghost use Rattle.serde_json.specs.Find.{get};
 ghost use Rattle.serde_json.specs.View.{items_view, view};
-ghost use Rattle.kd_json.specs.Lists.{items_or_none};
+ghost use Rattle.kd_fields.specs.Lists.{items_or_none};
 ghost use Rattle.kd_notes.specs.Notes.{ObjectNotes, item_notes, listed_notes, note_unless, notes_at, notes_of_each, or_wrong};
 
 use crate::list::NoteList;
 use crate::notes::NoteKind;
-use kd_json::objects::faults::SettingsFault;
-use kd_json::objects::lists::{EntryReader, list_at};
-use kd_json::rules::place::Place;
+use kd_fields::faults::SettingsFault;
+use kd_fields::lists::{EntryReader, list_at};
+use kd_fields::place::Place;
 use kd_keys::alone::read_alone;
 use serde_json::Value;
 use std::alloc::{AllocError, Global};

@@ -7,10 +7,10 @@ ghost use Rattle.kd_keys.specs.Scope.{definitions_in};
 ghost use Rattle.kd_kea.specs.Settings.{kea_dhcp4, kea_root};
 
 use kd_classes::OptionList;
-use kd_json::objects::faults::SettingsFault;
-use kd_json::objects::lists::EntryReader;
+use kd_fields::faults::SettingsFault;
+use kd_fields::lists::EntryReader;
+use kd_fields::place::Place;
 use kd_json::objects::settings::Settings;
-use kd_json::rules::place::Place;
 use kd_kea::objects::settings::{root_of, settings_of};
 use kd_keys::definition::{DefinedOption, definitions_of};
 use kd_keys::host_name::name_of;

@@ -1,4 +1,1 @@
-mod Keys
-mod Said
-mod Values
 mod Starting

@@ -1,4 +1,2 @@
-pub mod KeaWords
 pub mod Start
 pub mod Trials
-pub mod Words

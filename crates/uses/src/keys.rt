@@ -1,12 +1,12 @@
 ghost use Rattle.serde_json.specs.View.{view};
-ghost use Rattle.kd_json.specs.Gives.{Means};
-ghost use Rattle.kd_json.specs.Steps.{must};
-ghost use Rattle.kd_json.specs.declared.objects.faults.SettingsFault.TheVariants.{Memory};
+ghost use Rattle.kd_fields.specs.Gives.{Means};
+ghost use Rattle.kd_fields.specs.Steps.{must};
+ghost use Rattle.kd_fields.specs.declared.faults.SettingsFault.TheVariants.{Memory};
 ghost use Rattle.kd_keys.specs.Keys.{keys_are_read};
 ghost use Rattle.kd_keys.specs.Tables.{pool_keys};
 
-use kd_json::objects::faults::SettingsFault;
-use kd_json::rules::place::Place;
+use kd_fields::faults::SettingsFault;
+use kd_fields::place::Place;
 use kd_keys::checking::check_keys;
 use kd_keys::tables::ObjectKind;
 use serde_json::Value;

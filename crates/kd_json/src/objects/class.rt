@@ -1,16 +1,15 @@
-ghost use Rattle.std.specs.Prelude.{◌≡◌, option_map};
 ghost use Rattle.serde_json.specs.View.{view};
-ghost use Rattle.kd_json.specs.Class.{class_of, has_class_keys, class_name_in, test_source_in, test_source};
-ghost use Rattle.kd_json.specs.Gives.{Means};
-ghost use Rattle.kd_json.specs.Steps.{must};
-ghost use Rattle.kd_json.specs.declared.objects.faults.SettingsFault.TheVariants.{Memory};
+ghost use Rattle.kd_json.specs.Class.{class_of, has_class_keys, test_source_in, test_source};
+ghost use Rattle.kd_fields.specs.Gives.{Means};
+ghost use Rattle.kd_fields.specs.Steps.{must};
+ghost use Rattle.kd_fields.specs.declared.faults.SettingsFault.TheVariants.{Memory};
 
-use crate::objects::faults::SettingsFault;
-use crate::objects::lists::EntryReader;
 use crate::objects::options::options_of;
-use crate::objects::values::{check_keys, own_bytes, text_or_none};
-use crate::rules::place::{Place, bad_value};
 use kd_classes::{Boot, Lifetime, OptionList};
+use kd_fields::faults::SettingsFault;
+use kd_fields::lists::EntryReader;
+use kd_fields::place::{Place, bad_value};
+use kd_fields::values::{check_keys, name_in, own_bytes, text_or_none};
 use kd_wire::Bytes;
 use serde_json::Value;
 use std::alloc::Global;
@@ -80,19 +79,6 @@ fn check_class(alloc: Global, value: &Value, at: &Place<'_>) -> Result<(), Setti
 {
     let known = ["name", "test", "tokens", "option-data"];
     check_keys(alloc, value, at, &known, &["name"])
-}
-
-/// Returns the name of a class: 1 to 255 bytes.
-#[tactic(auto, unfolding(crate::specs::Class::class_name_in))]
-pub fn name_in(value: &Value) -> Option<&[u8]>
-    ensures { option_map (λ name. name.now) result ≡ class_name_in (view value.now) }
-{
-    let name = value.as_str()?.as_bytes();
-    if 1 <= name.len() && name.len() <= 255 {
-        Some(name)
-    } else {
-        None
-    }
 }
 
 // Returns the test that the keys `test` and `tokens` give.

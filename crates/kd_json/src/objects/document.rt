@@ -1,17 +1,17 @@
-ghost use Rattle.std.specs.Prelude.{◌≡◌, ◌≢◌, IfErr};
-ghost use Rattle.serde_json.specs.View.{view};
-ghost use Rattle.kd_json.specs.Document.{accepted_settings, value_spelled, settings_spelled};
+ghost use Rattle.std.specs.Prelude.{◌≢◌, IfErr};
+ghost use Rattle.kd_json.specs.Document.{accepted_settings, settings_spelled};
 ghost use Rattle.kd_json.specs.FirstFault.{SubnetsFail, IsFaultOfText};
-ghost use Rattle.kd_json.specs.Gives.{Means, GivesAs};
+ghost use Rattle.kd_fields.specs.Gives.{Means};
 ghost use Rattle.kd_config.specs.Rules.{may_stand};
-ghost use Rattle.kd_json.specs.Steps.{must};
+ghost use Rattle.kd_fields.specs.Steps.{must};
 ghost use Rattle.kd_json.specs.declared.fault.ConfigFault.TheVariants as faults;
-ghost use Rattle.kd_json.specs.declared.objects.faults.SettingsFault.TheVariants.{Memory};
+ghost use Rattle.kd_fields.specs.declared.faults.SettingsFault.TheVariants.{Memory};
 
 use crate::fault::ConfigFault;
-use crate::objects::faults::SettingsFault;
 use crate::objects::settings::{Settings, root_of};
 use crate::rules::subnets::check_rules;
+use kd_fields::faults::SettingsFault;
+use kd_fields::text::value_of;
 use serde_json::Value;
 use std::alloc::Global;
 
@@ -48,20 +48,4 @@ fn written_settings(alloc: Global, text: &[u8]) -> Result<Settings, SettingsFaul
 {
     let value = value_of(alloc, text)?;
     root_of(alloc, &value)
-}
-
-/// Parses the JSON value of a text in UTF-8.
-///
-/// # Errors
-///
-/// `Json` if it is no JSON; `Memory`.
-#[tactic(auto, using(crate::proofs::Documents::spelled, crate::proofs::Documents::not_spelled))]
-pub fn value_of(alloc: Global, text: &[u8]) -> Result<Value, SettingsFault>
-    ensures { GivesAs Memory view result (value_spelled text.now) }
-{
-    match Value::from_slice(alloc, text) {
-        Ok(value) => Ok(value),
-        Err(error) if error.is_memory() => Err(SettingsFault::Memory),
-        Err(_) => Err(SettingsFault::Json),
-    }
 }

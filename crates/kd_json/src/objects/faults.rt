@@ -2,22 +2,8 @@ ghost use Rattle.std.specs.Prelude.{◌≡◌};
 
 use crate::fault::{ConfigFault, FileTestFault, TestFault};
 use kd_classes::ClassFault;
+use kd_fields::faults::SettingsFault;
 use std::alloc::{AllocError, AllocFailed};
-
-/// Why a text describes no settings.
-#[derive(Drop)]
-pub enum SettingsFault {
-    /// The text is not JSON.
-    Json,
-    /// A required key is missing; its path.
-    Missing(String),
-    /// A key is not known; its path.
-    Unknown(String),
-    /// A value has the wrong type or is not allowed; its path.
-    BadValue(String),
-    /// There is not enough memory for the settings.
-    Memory,
-}
 
 /// Why the classes of settings have no definitions that are accepted.
 #[derive(Drop)]
@@ -60,26 +46,6 @@ impl From<ClassesFault> for ConfigFault {
             ClassesFault::Class(why) => ConfigFault::Class(why),
             ClassesFault::Memory => ConfigFault::Memory,
         }
-    }
-}
-
-impl From<AllocError> for SettingsFault {
-    ghost use Rattle.kd_json.specs.declared.objects.faults.SettingsFault.TheVariants.{Memory};
-
-    ghost from_gives = { λ _ told. told ≡ Memory };
-
-    fn from(_error: AllocError) -> SettingsFault {
-        SettingsFault::Memory
-    }
-}
-
-impl<T: Drop> From<AllocFailed<T>> for SettingsFault {
-    ghost use Rattle.kd_json.specs.declared.objects.faults.SettingsFault.TheVariants.{Memory};
-
-    ghost from_gives = { λ _ told. told ≡ Memory };
-
-    fn from(_error: AllocFailed<T>) -> SettingsFault {
-        SettingsFault::Memory
     }
 }
 

@@ -1,17 +1,17 @@
 ghost use Rattle.std.specs.Prelude.{◌≡◌, [], codes};
 ghost use Rattle.serde_json.specs.Find.{get};
 ghost use Rattle.serde_json.specs.View.{items_view, view};
-ghost use Rattle.kd_json.specs.Gives.{Means};
+ghost use Rattle.kd_fields.specs.Gives.{Means};
 ghost use Rattle.kd_config.specs.Options.{code_among};
 ghost use Rattle.kd_json.specs.Options.{code_given, has_option_keys, option_after, options_behind, option_list_in};
-ghost use Rattle.kd_json.specs.Steps.{must};
-ghost use Rattle.kd_json.specs.declared.objects.faults.SettingsFault.TheVariants.{Memory};
+ghost use Rattle.kd_fields.specs.Steps.{must};
+ghost use Rattle.kd_fields.specs.declared.faults.SettingsFault.TheVariants.{Memory};
 
-use crate::objects::faults::SettingsFault;
-use crate::objects::lists::list_at;
-use crate::objects::values::{bytes_at, check_keys, number_in};
-use crate::rules::place::{Place, bad_value};
 use kd_classes::{OptionData, OptionList};
+use kd_fields::faults::SettingsFault;
+use kd_fields::lists::list_at;
+use kd_fields::place::{Place, bad_value};
+use kd_fields::values::{bytes_at, check_keys, number_in};
 use serde_json::Value;
 use std::alloc::Global;
 

@@ -1,17 +1,17 @@
 ghost use Rattle.std.specs.Prelude.{◌≡◌, ◌≤◌, IfSome};
 ghost use Rattle.serde_json.specs.View.{view};
-ghost use Rattle.kd_json.specs.Gives.{Means};
+ghost use Rattle.kd_fields.specs.Gives.{Means};
 ghost use Rattle.kd_json.specs.Pool.{has_pool_keys, pool_addresses, pool_of, pool_range};
-ghost use Rattle.kd_json.specs.Steps.{must};
-ghost use Rattle.kd_json.specs.declared.objects.faults.SettingsFault.TheVariants.{Memory};
+ghost use Rattle.kd_fields.specs.Steps.{must};
+ghost use Rattle.kd_fields.specs.declared.faults.SettingsFault.TheVariants.{Memory};
 
-use crate::objects::faults::SettingsFault;
-use crate::objects::lists::EntryReader;
 use crate::objects::options::options_of;
-use crate::objects::values::check_keys;
-use crate::rules::place::{Place, bad_value};
 use crate::text::range::range_of;
 use kd_config::{Pool, Range};
+use kd_fields::faults::SettingsFault;
+use kd_fields::lists::EntryReader;
+use kd_fields::place::{Place, bad_value};
+use kd_fields::values::check_keys;
 use kd_wire::Entries;
 use serde_json::Value;
 use std::alloc::Global;

@@ -1,16 +1,16 @@
 ghost use Rattle.std.specs.Prelude.{◌≡◌};
 ghost use Rattle.serde_json.specs.View.{view};
-ghost use Rattle.kd_json.specs.Gives.{Means};
+ghost use Rattle.kd_fields.specs.Gives.{Means};
 ghost use Rattle.kd_json.specs.Reservation.{has_reservation_keys, identity_given, one_identity, reservation_of};
-ghost use Rattle.kd_json.specs.Steps.{must};
-ghost use Rattle.kd_json.specs.declared.objects.faults.SettingsFault.TheVariants.{Memory};
+ghost use Rattle.kd_fields.specs.Steps.{must};
+ghost use Rattle.kd_fields.specs.declared.faults.SettingsFault.TheVariants.{Memory};
 
-use crate::objects::faults::SettingsFault;
-use crate::objects::lists::EntryReader;
-use crate::objects::values::{address_in, bytes_or_none, check_keys};
-use crate::rules::place::{Place, bad_value, missing};
 use kd_classes::{BootList, OptionList};
 use kd_config::{Identity, Reservation};
+use kd_fields::faults::SettingsFault;
+use kd_fields::lists::EntryReader;
+use kd_fields::place::{Place, bad_value, missing};
+use kd_fields::values::{address_in, bytes_or_none, check_keys};
 use kd_wire::{Bytes, Entries};
 use serde_json::Value;
 use std::alloc::Global;

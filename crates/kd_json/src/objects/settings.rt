@@ -1,20 +1,20 @@
 ghost use Rattle.std.specs.Prelude.{◌≡◌};
 ghost use Rattle.serde_json.specs.View.{view};
-ghost use Rattle.kd_json.specs.Gives.{Means};
+ghost use Rattle.kd_fields.specs.Gives.{Means};
 ghost use Rattle.kd_json.specs.Settings.{has_dhcp4_keys, has_root_keys, whole_settings, server_given, dhcp4_settings, settings_with};
-ghost use Rattle.kd_json.specs.Steps.{must};
-ghost use Rattle.kd_json.specs.declared.objects.faults.SettingsFault.TheVariants.{Memory};
+ghost use Rattle.kd_fields.specs.Steps.{must};
+ghost use Rattle.kd_fields.specs.declared.faults.SettingsFault.TheVariants.{Memory};
 
 use crate::objects::class::{ClassEntry, ClassReader};
-use crate::objects::faults::SettingsFault;
-use crate::objects::lists::entries_of;
 use crate::objects::options::options_of;
 use crate::objects::subnet::SubnetReader;
 use crate::objects::times::times_of;
-use crate::objects::values::{address_in, check_keys};
-use crate::rules::place::{Place, bad_value, missing};
 use kd_classes::OptionList;
 use kd_config::{Extensions, Subnet, Times};
+use kd_fields::faults::SettingsFault;
+use kd_fields::lists::entries_of;
+use kd_fields::place::{Place, bad_value, missing};
+use kd_fields::values::{address_in, check_keys};
 use kd_wire::Entries;
 use serde_json::Value;
 use std::alloc::Global;

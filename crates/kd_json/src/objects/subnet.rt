@@ -1,20 +1,20 @@
 ghost use Rattle.std.specs.Prelude.{◌≡◌};
 ghost use Rattle.serde_json.specs.View.{view};
-ghost use Rattle.kd_json.specs.Gives.{Means};
-ghost use Rattle.kd_json.specs.Steps.{must};
+ghost use Rattle.kd_fields.specs.Gives.{Means};
+ghost use Rattle.kd_fields.specs.Steps.{must};
 ghost use Rattle.kd_json.specs.Subnet.{has_subnet_keys, subnet_of, subnet_prefix, subnet_with};
-ghost use Rattle.kd_json.specs.declared.objects.faults.SettingsFault.TheVariants.{Memory};
+ghost use Rattle.kd_fields.specs.declared.faults.SettingsFault.TheVariants.{Memory};
 
-use crate::objects::faults::SettingsFault;
-use crate::objects::lists::{EntryReader, entries_of};
 use crate::objects::options::options_of;
 use crate::objects::pool::PoolReader;
 use crate::objects::reservation::ReservationReader;
-use crate::objects::values::{check_keys, number_or, text_or_none};
-use crate::rules::place::{Place, bad_value};
 use crate::text::prefix::prefix_of;
 use kd_classes::{Boot, OptionList};
 use kd_config::{Prefix, Reservations, Subnet, classes_of};
+use kd_fields::faults::SettingsFault;
+use kd_fields::lists::{EntryReader, entries_of};
+use kd_fields::place::{Place, bad_value};
+use kd_fields::values::{check_keys, number_or, text_or_none};
 use kd_wire::{Bytes, Entries};
 use serde_json::Value;
 use std::alloc::Global;

@@ -1,14 +1,14 @@
 ghost use Rattle.std.specs.Prelude.{◌≡◌};
 ghost use Rattle.serde_json.specs.View.{view};
-ghost use Rattle.kd_json.specs.Gives.{Means};
+ghost use Rattle.kd_fields.specs.Gives.{Means};
 ghost use Rattle.kd_config.specs.Sound.{longest_lease};
 ghost use Rattle.kd_json.specs.Settings.{times_given};
-ghost use Rattle.kd_json.specs.declared.objects.faults.SettingsFault.TheVariants.{Memory};
+ghost use Rattle.kd_fields.specs.declared.faults.SettingsFault.TheVariants.{Memory};
 
-use crate::objects::faults::SettingsFault;
-use crate::objects::values::number_or;
-use crate::rules::place::{Place, bad_value};
 use kd_config::Times;
+use kd_fields::faults::SettingsFault;
+use kd_fields::place::{Place, bad_value};
+use kd_fields::values::number_or;
 use serde_json::Value;
 use std::alloc::Global;
 

@@ -1,7 +1,7 @@
 //! The rules over the whole of a configuration, and the place of a value that breaks one.
 
 mod apart;
-pub mod place;
+mod fault_at;
 mod pools;
 mod reservations;
 pub(crate) mod subnets;

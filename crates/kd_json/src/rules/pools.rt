@@ -1,17 +1,20 @@
 ghost use Rattle.std.specs.Prelude.{◌≡◌, ◌≢◌, ◌<◌, ◌+◌, ◌++◌, ◌&&◌, IfErr, IfOk, OnOk, codes, false, if◌then◌else◌, length, nat_le, take, true};
 ghost use Rattle.kd_config.specs.Apart.{lie_apart};
 ghost use Rattle.kd_json.specs.Faults.{config_fault_number, fault_path};
-ghost use Rattle.kd_json.specs.FirstFault.{PoolFails, path_below};
-ghost use Rattle.kd_json.specs.Gives.{Means};
-ghost use Rattle.kd_json.specs.Parts.{lie_and_fit, path_at};
+ghost use Rattle.kd_json.specs.FirstFault.{PoolFails};
+ghost use Rattle.kd_fields.specs.Place.{path_below};
+ghost use Rattle.kd_fields.specs.Gives.{Means};
+ghost use Rattle.kd_json.specs.Parts.{lie_and_fit};
+ghost use Rattle.kd_fields.specs.Place.{path_at};
 ghost use Rattle.kd_config.specs.Rules.{pool_ranges, lies_within, ranges_in};
-ghost use Rattle.kd_json.specs.Steps.{must};
+ghost use Rattle.kd_fields.specs.Steps.{must};
 ghost use Rattle.kd_json.specs.declared.fault.ConfigFault.TheVariants.{Memory};
 
 use crate::fault::ConfigFault;
 use crate::rules::apart::are_apart;
-use crate::rules::place::{Place, outside, overlap};
+use crate::rules::fault_at::{outside, overlap};
 use kd_config::{Pool, Prefix, Range, Subnet};
+use kd_fields::place::Place;
 use std::alloc::{AllocError, Global};
 
 // Returns the number of ranges before the first that shares an address with an earlier one: all of

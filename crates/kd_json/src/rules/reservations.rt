@@ -2,17 +2,20 @@ ghost use Rattle.std.specs.Prelude.{◌≡◌, ◌≢◌, ◌++◌, ◌∷◌, �
 ghost use Rattle.indexmap.specs.IndexSet.{keys};
 ghost use Rattle.kd_config.specs.Reservation.{listed};
 ghost use Rattle.kd_json.specs.Faults.{config_fault_number, fault_path};
-ghost use Rattle.kd_json.specs.FirstFault.{ReservationFails, client_key, lies_in, path_below, wrong_key};
-ghost use Rattle.kd_json.specs.Gives.{Means};
-ghost use Rattle.kd_json.specs.Parts.{client_by, path_at};
+ghost use Rattle.kd_json.specs.FirstFault.{ReservationFails, client_key, lies_in, wrong_key};
+ghost use Rattle.kd_fields.specs.Place.{path_below};
+ghost use Rattle.kd_fields.specs.Gives.{Means};
+ghost use Rattle.kd_json.specs.Parts.{client_by};
+ghost use Rattle.kd_fields.specs.Place.{path_at};
 ghost use Rattle.kd_config.specs.Rules.{is_new, may_all_reserve, may_have, may_reserve, reserved};
-ghost use Rattle.kd_json.specs.Steps.{must};
+ghost use Rattle.kd_fields.specs.Steps.{must};
 ghost use Rattle.kd_json.specs.declared.fault.ConfigFault.TheVariants.{Memory};
 
 use crate::fault::ConfigFault;
-use crate::rules::place::{Place, outside, repeated_key};
+use crate::rules::fault_at::{outside, repeated_key};
 use indexmap::IndexSet;
 use kd_config::{Identity, Prefix, Reservation};
+use kd_fields::place::Place;
 use std::alloc::Global;
 
 // A client by borrowed bytes.

@@ -1,19 +1,21 @@
 ghost use Rattle.std.specs.Prelude.{◌≡◌, ◌≢◌, ◌==◌, ◌-◌, ◌++◌, [], IfErr, IfOk, if◌then◌else◌, length};
 ghost use Rattle.std.specs.Fmt.{decimal};
 ghost use Rattle.indexmap.specs.IndexSet.{keys};
-ghost use Rattle.kd_json.specs.FirstFault.{SubnetFails, SubnetsFail, in_network, path_below};
-ghost use Rattle.kd_json.specs.Gives.{Means, GivesAs};
-ghost use Rattle.kd_json.specs.Parts.{obey_within, obeys_within, path_at};
+ghost use Rattle.kd_json.specs.FirstFault.{SubnetFails, SubnetsFail, in_network};
+ghost use Rattle.kd_fields.specs.Place.{path_below};
+ghost use Rattle.kd_fields.specs.Gives.{Means, GivesAs};
+ghost use Rattle.kd_json.specs.Parts.{obey_within, obeys_within};
+ghost use Rattle.kd_fields.specs.Place.{path_at};
 ghost use Rattle.kd_config.specs.Rules.{may_stand, reserved};
-ghost use Rattle.kd_json.specs.Steps.{must};
+ghost use Rattle.kd_fields.specs.Steps.{must};
 ghost use Rattle.kd_json.specs.declared.fault.ConfigFault.TheVariants.{Memory};
 
 use crate::fault::ConfigFault;
-use crate::rules::place::Place;
 use crate::rules::pools::{all_ranges, check_pools, first_overlap};
 use crate::rules::reservations::check_reservations;
 use indexmap::IndexSet;
 use kd_config::Subnet;
+use kd_fields::place::Place;
 use std::alloc::Global;
 
 // Checks that the subnets obey the rules together.

@@ -1,18 +1,5 @@
 ghost use Rattle.std.specs.Prelude.{◌≡◌, option_map};
-ghost use Rattle.kd_json.specs.Address.{address_spelled, parts_at, after_spaces, before_spaces};
-
-use kd_expr::read_address;
-
-// Reads an IPv4 address from its text.
-#[tactic(auto, unfolding(crate::specs::Address::address_spelled))]
-pub(crate) fn address_of(text: &[u8]) -> Option<u32>
-    ensures { result ≡ address_spelled text.now }
-{
-    match read_address(text) {
-        Some(bytes) => Some(u32::from_be_bytes(bytes)),
-        None => None,
-    }
-}
+ghost use Rattle.kd_json.specs.Address.{parts_at, after_spaces, before_spaces};
 
 // Splits a text at the first occurrence of a byte, if there is one.
 pub(crate) fn cut_at(byte: u8, text: &[u8]) -> Option<(&[u8], &[u8])>

@@ -1,6 +1,5 @@
 //! Texts of values: addresses, prefixes, ranges and hexadecimal digits.
 
 pub(crate) mod address;
-pub(crate) mod hex_text;
 pub(crate) mod prefix;
 pub(crate) mod range;

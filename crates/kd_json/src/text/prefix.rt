@@ -2,8 +2,9 @@ ghost use Rattle.std.specs.Prelude.{◌≡◌, ◌+◌, ◌^◌, ◌≤◌, IfSo
 ghost use Rattle.kd_config.specs.Address.{network_address, prefix_size};
 ghost use Rattle.kd_json.specs.Address.{length_spelled, short_decimal, prefix_spelled};
 
-use crate::text::address::{address_of, cut_at};
+use crate::text::address::cut_at;
 use kd_config::Prefix;
+use kd_fields::address::address_of;
 
 // Clears the bits of an address that follow a prefix of this length.
 fn without_host_bits(address: u32, length: u8) -> u32

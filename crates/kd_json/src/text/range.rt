@@ -2,9 +2,10 @@ ghost use Rattle.std.specs.Prelude.{◌≡◌, ◌+◌, ◌^◌, ◌≤◌, IfSo
 ghost use Rattle.kd_config.specs.Address.{prefix_size};
 ghost use Rattle.kd_json.specs.Address.{addresses_from, addresses_of_parts, addresses_spelled, prefix_addresses};
 
-use crate::text::address::{address_of, cut_at, without_first_spaces, without_last_spaces};
+use crate::text::address::{cut_at, without_first_spaces, without_last_spaces};
 use crate::text::prefix::prefix_of;
 use kd_config::{Prefix, Range};
+use kd_fields::address::address_of;
 
 // Returns the range from the first to the last address, if it has one.
 fn between(first: u32, last: u32) -> Option<Range>

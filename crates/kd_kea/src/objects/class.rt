@@ -1,18 +1,18 @@
 ghost use Rattle.std.specs.Prelude.{◌≡◌, IfOk, codes, is_some, option_and_then, option_map};
 ghost use Rattle.serde_json.specs.Find.{get};
 ghost use Rattle.serde_json.specs.View.{view};
-ghost use Rattle.kd_json.specs.Gives.{Means};
-ghost use Rattle.kd_json.specs.declared.objects.faults.SettingsFault.TheVariants.{Memory};
+ghost use Rattle.kd_fields.specs.Gives.{Means};
+ghost use Rattle.kd_fields.specs.declared.faults.SettingsFault.TheVariants.{Memory};
 ghost use Rattle.kd_kea.specs.Class.{kea_class_options, kea_class, own_class_name, source_by};
 
 use crate::objects::lifetimes::class_lifetime_of;
 use crate::objects::option_text::asked_in_bytes;
 use kd_classes::OptionList;
-use kd_json::objects::class::{ClassEntry, TestSource, name_in};
-use kd_json::objects::faults::SettingsFault;
-use kd_json::objects::lists::EntryReader;
-use kd_json::objects::values::{own_bytes, text_or_none};
-use kd_json::rules::place::{Place, bad_value, missing};
+use kd_fields::faults::SettingsFault;
+use kd_fields::lists::EntryReader;
+use kd_fields::place::{Place, bad_value, missing};
+use kd_fields::values::{name_in, own_bytes, text_or_none};
+use kd_json::objects::class::{ClassEntry, TestSource};
 use kd_keys::boot::own_boot_of;
 use kd_keys::checking::check_keys;
 use kd_keys::class_names::is_known_or_unknown;

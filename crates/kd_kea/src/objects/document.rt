@@ -1,14 +1,15 @@
 ghost use Rattle.std.specs.Prelude.{◌≡◌, IfErr};
 ghost use Rattle.kd_json.specs.Document.{accepted};
-ghost use Rattle.kd_json.specs.Gives.{Means};
+ghost use Rattle.kd_fields.specs.Gives.{Means};
 ghost use Rattle.kd_json.specs.declared.fault.ConfigFault.TheVariants as faults;
-ghost use Rattle.kd_json.specs.declared.objects.faults.SettingsFault.TheVariants.{Memory};
+ghost use Rattle.kd_fields.specs.declared.faults.SettingsFault.TheVariants.{Memory};
 ghost use Rattle.kd_kea.specs.Kea.{IsFaultOfKea, kea_settings};
 
 use crate::objects::settings::root_of;
+use kd_fields::faults::SettingsFault;
+use kd_fields::text::value_of;
 use kd_json::ConfigFault;
-use kd_json::objects::document::{check_subnets, value_of};
-use kd_json::objects::faults::SettingsFault;
+use kd_json::objects::document::check_subnets;
 use kd_json::objects::settings::Settings;
 use kd_plain::plain_text;
 use std::alloc::Global;

@@ -5,8 +5,8 @@ ghost use Rattle.kd_kea.specs.Known.{are_of_clients, classes_with, gives_classes
 
 use kd_classes::{Boot, OptionList};
 use kd_config::{Pool, Reservation, Subnet};
+use kd_fields::values::own_bytes;
 use kd_json::objects::class::{ClassEntry, TestSource};
-use kd_json::objects::values::own_bytes;
 use kd_keys::class_names::{KNOWN, UNKNOWN, is_known_or_unknown};
 use kd_wire::{Bytes, Entries};
 use std::alloc::{AllocError, Global};

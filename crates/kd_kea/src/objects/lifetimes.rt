@@ -2,8 +2,8 @@ ghost use Rattle.std.specs.Prelude.{◌≡◌};
 ghost use Rattle.serde_json.specs.Find.{get};
 ghost use Rattle.serde_json.specs.View.{items_view, view};
 ghost use Rattle.kd_config.specs.Sound.{longest_lease};
-ghost use Rattle.kd_json.specs.Gives.{Means};
-ghost use Rattle.kd_json.specs.declared.objects.faults.SettingsFault.TheVariants.{Memory};
+ghost use Rattle.kd_fields.specs.Gives.{Means};
+ghost use Rattle.kd_fields.specs.declared.faults.SettingsFault.TheVariants.{Memory};
 ghost use Rattle.kd_kea.specs.Lifetimes.{bound_key, own_lifetime, has_class_lifetime, has_times_alone, is_in_bounds, is_key_among, is_key_below, kea_keys, keys_given, lifetime_between, lifetime_by, lifetime_of, seconds_or_above, term_of, term_unless_alike, timer_by, timer_key, timers_rise, usual_keys};
 
 use crate::objects::subnet::Above;
@@ -12,9 +12,9 @@ use crate::objects::times::{
 };
 use kd_classes::Lifetime;
 use kd_config::{Term, Timer, Times};
-use kd_json::objects::faults::SettingsFault;
-use kd_json::objects::values::{number_in, number_or};
-use kd_json::rules::place::{Place, bad_value};
+use kd_fields::faults::SettingsFault;
+use kd_fields::place::{Place, bad_value};
+use kd_fields::values::{number_in, number_or};
 use kd_keys::flags::flag_or_default;
 use serde_json::Value;
 use std::alloc::Global;

@@ -1,18 +1,18 @@
 ghost use Rattle.std.specs.Prelude.{◌≡◌, ◌≤◌, ◌++◌, IfOk, OnOk, codes, is_some, length, map, option_and_then};
 ghost use Rattle.serde_json.specs.Find.{as_str, get};
 ghost use Rattle.serde_json.specs.View.{view};
-ghost use Rattle.kd_json.specs.Gives.{Means};
-ghost use Rattle.kd_json.specs.Steps.{must};
-ghost use Rattle.kd_json.specs.declared.objects.faults.SettingsFault.TheVariants.{Memory};
+ghost use Rattle.kd_fields.specs.Gives.{Means};
+ghost use Rattle.kd_fields.specs.Steps.{must};
+ghost use Rattle.kd_fields.specs.declared.faults.SettingsFault.TheVariants.{Memory};
 ghost use Rattle.kd_kea.specs.Network.{all_subnets, as_member, has_network_form, is_in_one_of, is_interface_of, kea_common, kea_member, kea_network, kea_subnets, numbered, relays_or, with_network};
 
 use crate::objects::subnet::{Above, SubnetReader, above_in};
 use kd_classes::OptionList;
 use kd_config::{Subnet, classes_joined, classes_of, options_copied};
-use kd_json::objects::faults::SettingsFault;
-use kd_json::objects::lists::{EntryReader, entries_of};
-use kd_json::objects::values::text_or_none;
-use kd_json::rules::place::{Place, bad_value, unknown};
+use kd_fields::faults::SettingsFault;
+use kd_fields::lists::{EntryReader, entries_of};
+use kd_fields::place::{Place, bad_value, unknown};
+use kd_fields::values::text_or_none;
 use kd_keys::checking::check_keys;
 use kd_keys::definition::DefinedOption;
 use kd_keys::flags::{non_empty, text_at};

@@ -4,11 +4,11 @@ ghost use Rattle.serde_json.specs.View.{view};
 ghost use Rattle.kd_kea.specs.Pool.{kea_pool, kea_range};
 
 use kd_config::{Pool, Range, classes_of};
-use kd_json::objects::faults::SettingsFault;
-use kd_json::objects::lists::EntryReader;
+use kd_fields::faults::SettingsFault;
+use kd_fields::lists::EntryReader;
+use kd_fields::place::{Place, bad_value, missing};
+use kd_fields::values::text_or_none;
 use kd_json::objects::pool::addresses_in;
-use kd_json::objects::values::text_or_none;
-use kd_json::rules::place::{Place, bad_value, missing};
 use kd_keys::checking::check_keys;
 use kd_keys::definition::DefinedOption;
 use kd_keys::flags::non_empty;

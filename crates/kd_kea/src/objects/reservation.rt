@@ -1,15 +1,15 @@
 ghost use Rattle.std.specs.Prelude.{codes};
 ghost use Rattle.serde_json.specs.Find.{get};
 ghost use Rattle.serde_json.specs.View.{view};
-ghost use Rattle.kd_json.specs.Gives.{Means};
-ghost use Rattle.kd_json.specs.declared.objects.faults.SettingsFault.TheVariants.{Memory};
+ghost use Rattle.kd_fields.specs.Gives.{Means};
+ghost use Rattle.kd_fields.specs.declared.faults.SettingsFault.TheVariants.{Memory};
 ghost use Rattle.kd_kea.specs.Reservation.{address_if_given, kea_reservation};
 
 use kd_config::Reservation;
-use kd_json::objects::faults::SettingsFault;
-use kd_json::objects::lists::EntryReader;
-use kd_json::objects::values::address_in;
-use kd_json::rules::place::{Place, bad_value};
+use kd_fields::faults::SettingsFault;
+use kd_fields::lists::EntryReader;
+use kd_fields::place::{Place, bad_value};
+use kd_fields::values::address_in;
 use kd_keys::boot::{boot_list, own_boot_of};
 use kd_keys::checking::check_keys;
 use kd_keys::class_names::classes_given_by;

@@ -1,15 +1,15 @@
 ghost use Rattle.std.specs.Prelude.{◌≡◌, codes};
 ghost use Rattle.serde_json.specs.Find.{get};
 ghost use Rattle.serde_json.specs.View.{view};
-ghost use Rattle.kd_json.specs.Gives.{Means};
-ghost use Rattle.kd_json.specs.declared.objects.faults.SettingsFault.TheVariants.{Memory};
+ghost use Rattle.kd_fields.specs.Gives.{Means};
+ghost use Rattle.kd_fields.specs.declared.faults.SettingsFault.TheVariants.{Memory};
 ghost use Rattle.kd_kea.specs.Times.{are_in_order, are_shares, fits_below, has_usual_shares, is_asked_for, is_share, kea_times, offer_time, share_given, share_key, shares_given, times_key, usual_rebind, usual_renew};
 
 use crate::objects::lifetimes::TermKeys;
 use kd_config::{Times, seconds_of};
-use kd_json::objects::faults::SettingsFault;
-use kd_json::objects::values::number_or;
-use kd_json::rules::place::{Place, bad_value};
+use kd_fields::faults::SettingsFault;
+use kd_fields::place::{Place, bad_value};
+use kd_fields::values::number_or;
 use serde_json::Value;
 use std::alloc::Global;
 

@@ -1,7 +1,7 @@
 use Rattle.std.proofs.Common.{arith}
 use Rattle.std.proofs.lemmas.Result.{err_from_is_err_and}
 use Rattle.kd_json.proofs.FirstFaults.{all_within, not_all_within, within_failed, within_passed}
-use Rattle.kd_json.specs.Parts.{path_at}
+use Rattle.kd_fields.specs.Place.{path_at}
 use Rattle.kd_json.proofs.rules.pools.check_pools.Goals as goal
 
 pub loop-i-preserved : goal.loop-i-preserved

@@ -2,8 +2,8 @@ use Rattle.std.proofs.Common.{ap, ◌∙◌}
 use Rattle.std.proofs.lemmas.Result.{IfErr-weaker, err_from_is_err_and}
 use Rattle.indexmap.specs.IndexSet.{keys}
 use Rattle.kd_json.proofs.FirstFaults.{wrong_address, wrong_client}
-use Rattle.kd_json.specs.FirstFault.{path_below}
-use Rattle.kd_json.specs.Parts.{path_at}
+use Rattle.kd_fields.specs.Place.{path_below}
+use Rattle.kd_fields.specs.Place.{path_at}
 use Rattle.kd_json.proofs.rules.reservations.check_reservation.Goals as goal
 
 pub returns-in_err-check_address-clause-path : goal.returns-in_err-check_address-clause-path

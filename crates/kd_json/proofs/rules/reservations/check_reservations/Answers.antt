@@ -2,7 +2,8 @@ use Rattle.std.proofs.Common.{map, rules, arith}
 use Rattle.std.proofs.lemmas.Grind.{common_steps}
 use Rattle.std.proofs.lemmas.Result.{err_from_is_err_and}
 use Rattle.indexmap.specs.IndexSet.{keys}
-use Rattle.kd_json.specs.Parts.{client_by, path_at}
+use Rattle.kd_json.specs.Parts.{client_by}
+use Rattle.kd_fields.specs.Place.{path_at}
 use Rattle.kd_json.proofs.FirstFaults.{all_inside, inside_failed, inside_passed, not_all_inside}
 use Rattle.kd_json.proofs.rules.reservations.check_reservations.Goals as goal
 

@@ -2,7 +2,7 @@ use Rattle.std.proofs.Common.{arith, take}
 use Rattle.std.proofs.lemmas.Result.{err_from_is_err_and}
 use Rattle.indexmap.specs.IndexSet.{keys}
 use Rattle.kd_json.proofs.FirstSubnets.{all_obeyed, more_joined, not_all_obey, path_of_subnet, subnet_failed, subnet_passed}
-use Rattle.kd_json.specs.Parts.{path_at}
+use Rattle.kd_fields.specs.Place.{path_at}
 use Rattle.kd_json.proofs.rules.subnets.check_each.Goals as goal
 
 pub loop-i-preserved : goal.loop-i-preserved

@@ -1,7 +1,7 @@
 use Rattle.std.proofs.lemmas.Result.{err_from_is_err_and}
 use Rattle.indexmap.specs.IndexSet.{keys}
 use Rattle.kd_json.proofs.FirstSubnets.{by_pools, by_reservations}
-use Rattle.kd_json.specs.Parts.{path_at}
+use Rattle.kd_fields.specs.Place.{path_at}
 use Rattle.kd_json.proofs.rules.subnets.check_subnet.Goals as goal
 
 pub returns-in_err-check_pools-clause-first : goal.returns-in_err-check_pools-clause-first

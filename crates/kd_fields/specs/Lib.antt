@@ -1,0 +1,9 @@
+pub mod Steps
+pub mod Gives
+pub mod Address
+pub mod HexText
+pub mod Text
+pub mod Place
+pub mod Keys
+pub mod Values
+pub mod Lists

@@ -1,7 +1,0 @@
-use Rattle.std.proofs.Common.{◌≡◌, take}
-use Rattle.std.specs.List.{filter}
-use Rattle.kd_json.specs.HexText.{counts}
-use Rattle.kd_json.proofs.text.hex_text.without_separators.Given as goal
-
-abbrev pub invariant-loop-b : goal.invariant-loop-b
-invariant-loop-b l = l.digits.items ≡ filter counts (take l.b-index l.text)
