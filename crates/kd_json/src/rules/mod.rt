@@ -1,4 +1,4 @@
-//! The rules over the whole of a configuration, and the place of a value that breaks one.
+//! The rules over the whole of a configuration, and the fault of a value that breaks one.
 
 mod apart;
 mod fault_at;
